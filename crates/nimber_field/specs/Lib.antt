@@ -1,0 +1,4 @@
+pub mod Missing
+pub mod Tower
+pub mod Nimber
+pub mod Field
