@@ -1,0 +1,7 @@
+// Coin-turning games: what a game is, and the four that ship.
+mod row;
+pub mod rules;
+pub mod twins;
+
+pub use rules::Game;
+pub use twins::Twins;
