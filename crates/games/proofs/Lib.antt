@@ -1,3 +1,4 @@
 pub mod Sums
 pub mod RowLaws
 pub mod TwinsLaws
+pub mod RulerLaws

@@ -24,12 +24,12 @@ pub record RowLaws (size ceiling : ℕ) (count : ℕ → ℕ) (turns : ℕ → �
   pub found : (c w : ℕ) → c < size → w < value c → (i : ℕ) × (i < count c) × (sum-held c (turns c i) value ≡ w)
 
 -- the first number that passes, where some number below n passes
-record First (n : ℕ) (p : ℕ → Bool) (i : ℕ) : Type 0 where
-  below : i < n
-  passes : p i ≡ true
-  earliest : (j : ℕ) → j < i → p j ≡ false
+pub record First (n : ℕ) (p : ℕ → Bool) (i : ℕ) : Type 0 where
+  pub below : i < n
+  pub passes : p i ≡ true
+  pub earliest : (j : ℕ) → j < i → p j ≡ false
 
-first-exists : (n : ℕ) (p : ℕ → Bool) (k : ℕ) → k < n → p k ≡ true → First n p (first n p)
+pub first-exists : (n : ℕ) (p : ℕ → Bool) (k : ℕ) → k < n → p k ≡ true → First n p (first n p)
 unfolding first
 first-exists zero p k l e = absurd (omega arith)
 first-exists (suc n) p k l e = by-first (p 0) refl (λ m q. first-exists n (λ i. p (suc i)) m q)

@@ -64,3 +64,15 @@ module _ (f : ℕ → ℕ) where
   sum-two n a b s k l p q h =
       sum-past (suc b) n s l (λ d u v. h d v (omega arith) (omega arith)) ∙ held-last b s q
       ∙ ap (λ m. m ⊕ f b) (sum-one b a s k p (λ d u v. h d (omega arith) v (omega arith)))
+
+  -- the cells from m up are held: what lies below m cancels
+  pub sum-from : (m n : ℕ) (s : ℕ → Bool) → m ≤ n → Lacks m s → ((d : ℕ) → m ≤ d → d < n → s d ≡ true) → sum-held n s f ≡ nim-sum m f ⊕ nim-sum n f
+  unfolding nim-sum
+  sum-from m zero s l lacks held = let e : m ≡ 0 = omega arith in sym (ap (λ k. nim-sum k f ⊕ 0) e)
+  sum-from m (suc n) s l lacks held = by-end (ℕ-discrete m (suc n)) (λ k. sum-from m n s k lacks (λ d a b. held d a (omega arith)))
+    where
+      by-end : Dec (m ≡ suc n) → (m ≤ n → sum-held n s f ≡ nim-sum m f ⊕ nim-sum n f) → sum-held (suc n) s f ≡ nim-sum m f ⊕ nim-sum (suc n) f
+      by-end (yes e) ih =
+          sum-none (suc n) s (subst (λ k. Lacks k s) e lacks) ∙ sym (xor-self (nim-sum (suc n) f)) ∙ ap (λ k. nim-sum k f ⊕ nim-sum (suc n) f) (sym e)
+      by-end (no e) ih =
+          held-last n s (held n (omega arith) (omega arith)) ∙ ap (λ k. k ⊕ f n) (ih (omega arith)) ∙ xor-assoc (nim-sum m f) (nim-sum n f) (f n)

@@ -1,3 +1,4 @@
 pub mod Rules
 pub mod Rows
 pub mod Twins
+pub mod Ruler

@@ -1,7 +1,9 @@
 // Coin-turning games: what a game is, and the four that ship.
 mod row;
+pub mod ruler;
 pub mod rules;
 pub mod twins;
 
+pub use ruler::Ruler;
 pub use rules::Game;
 pub use twins::Twins;

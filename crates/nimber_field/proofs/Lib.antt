@@ -6,3 +6,4 @@ pub mod Codes
 pub mod Numbers
 pub mod Conway
 pub mod Halves
+pub mod Products
