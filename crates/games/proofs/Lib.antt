@@ -1,4 +1,10 @@
 pub mod Sums
 pub mod RowLaws
 pub mod TwinsLaws
+pub mod Odious
+pub mod Pairs
+pub mod TurtlesLaws
 pub mod RulerLaws
+pub mod AmountLaws
+pub mod TakeValueLaws
+pub mod TakeLaws

@@ -76,3 +76,11 @@ module _ (f : ℕ → ℕ) where
           sum-none (suc n) s (subst (λ k. Lacks k s) e lacks) ∙ sym (xor-self (nim-sum (suc n) f)) ∙ ap (λ k. nim-sum k f ⊕ nim-sum (suc n) f) (sym e)
       by-end (no e) ih =
           held-last n s (held n (omega arith) (omega arith)) ∙ ap (λ k. k ⊕ f n) (ih (omega arith)) ∙ xor-assoc (nim-sum m f) (nim-sum n f) (f n)
+
+  -- a set whose highest cell is c
+  pub sum-whole : (n : ℕ) (s : ℕ → Bool) (c : ℕ) → c < n → s c ≡ true → ((d : ℕ) → s d ≡ true → d ≤ c) → sum-held n s f ≡ sum-held c s f ⊕ f c
+  sum-whole n s c l own highest = sum-past (suc c) n s l (λ d a b. above d a (s d) refl) ∙ held-last c s own
+    where
+      above : (d : ℕ) → suc c ≤ d → (b : Bool) → s d ≡ b → b ≡ false
+      above d a true e = absurd (omega (arith, highest d e))
+      above d a false e = refl

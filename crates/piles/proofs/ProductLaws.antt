@@ -39,7 +39,7 @@ use Rattle.nimber_field.proofs.Products.{
   partner-is,
 }
 use Rattle.games.specs.Rules.{Rules, nim-sum, sum-held, rest, IsRest, Lawful, FreeReply, Replies}
-use Rattle.games.proofs.Sums.{sum-same, sum-past, held-last}
+use Rattle.games.proofs.Sums.{sum-same, sum-whole}
 use Rattle.games.proofs.RowLaws.{First, first-exists}
 use Rattle.piles.specs.Layers.{limited, partner, smallest-met, paired, met-answer, crossed, multiplies, product, Tartan, TartanTheorem}
 use Rattle.piles.proofs.Blocks.{sum-crossed, held-sum-small}
@@ -48,14 +48,6 @@ use Rattle.piles.proofs.MixLaws.{limited-lawful, limited-replies}
 both-true : (p q : Bool) → p && q ≡ true → (p ≡ true) × (q ≡ true)
 both-true true q e = (refl, e)
 both-true false q e = absurd (clash e)
-
--- the sum over a set whose highest cell is c
-whole : (n : ℕ) (s : ℕ → Bool) (f : ℕ → ℕ) (c : ℕ) → c < n → s c ≡ true → ((d : ℕ) → s d ≡ true → d ≤ c) → sum-held n s f ≡ sum-held c s f ⊕ f c
-whole n s f c l own highest = sum-past f (suc c) n s l (λ d a b. above d a (s d) refl) ∙ held-last f c s own
-  where
-    above : (d : ℕ) → suc c ≤ d → (b : Bool) → s d ≡ b → b ≡ false
-    above d a true e = absurd (omega (arith, highest d e))
-    above d a false e = refl
 
 -- the rest of a move is a 32-bit number
 rest-small : (G : Rules) → Lawful G → (c i : ℕ) → Small (rest G c i)
@@ -134,7 +126,7 @@ module _ (A B : Rules) (P : Lawful A) (Q : Lawful B) where
         (λ d l. ap (λ b. cond b (X .worth d) 0) (holds-is d))
         ∙ sym (xor-twice v (sum-held cell turned (X .worth)))
         ∙ ap (λ n. v ⊕ n) (xor-comm v (sum-held cell turned (X .worth)) ∙ ap (λ n. sum-held cell turned (X .worth) ⊕ n) (sym worth-is))
-        ∙ ap (λ n. v ⊕ n) (sym (whole (A .cells * B .cells) turned (X .worth) cell cell-below own highest))
+        ∙ ap (λ n. v ⊕ n) (sym (sum-whole (X .worth) (A .cells * B .cells) turned cell cell-below own highest))
         ∙ ap (λ n. v ⊕ n) (sum-crossed (A .cells) (B .cells) (A .holds x i) (B .holds y j) (A .worth) (B .worth) (P .nimber) (Q .nimber))
         ∙ ap (λ n. v ⊕ n) (λ k. part A x i hx (P .own x i hi) (λ d e. P .not-above x i d e) k ⊗ part B y j hy (Q .own y j hj) (λ d e. Q .not-above y j d e) k)
       where
@@ -143,7 +135,7 @@ module _ (A B : Rules) (P : Lawful A) (Q : Lawful B) where
 
         part : (G : Rules) (c n : ℕ) → c < G .cells → G .holds c n c ≡ true → ((d : ℕ) → G .holds c n d ≡ true → d ≤ c)
             → sum-held (G .cells) (G .holds c n) (G .worth) ≡ G .worth c ⊕ rest G c n
-        part G c n l o h = whole (G .cells) (G .holds c n) (G .worth) c l o h ∙ xor-comm (rest G c n) (G .worth c)
+        part G c n l o h = sum-whole (G .worth) (G .cells) (G .holds c n) c l o h ∙ xor-comm (rest G c n) (G .worth c)
 
     -- and so it is the number that Conway's rule excludes for the rests of the parts
     excluded-rest : rest X cell move

@@ -1,6 +1,8 @@
-// Games made of games: mixtures and products.
+// Games made of games: mixtures and products, and the numbered piles of them.
 pub mod mix;
+pub mod pile;
 pub mod product;
 
 pub use mix::Mix;
+pub use pile::Pile;
 pub use product::Product;
