@@ -7,7 +7,6 @@ ghost use Rattle.nimber_field.specs.Nimber.{order, times, norm-at, invert, inve
 ghost use Rattle.std.specs.Options.{Cases as BySome};
 
 mod table;
-pub mod worked;
 
 use table::PRODUCTS;
 

@@ -2,6 +2,7 @@
 pub mod mix;
 pub mod pile;
 pub mod product;
+pub mod worked;
 
 pub use mix::Mix;
 pub use pile::Pile;

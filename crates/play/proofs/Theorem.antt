@@ -62,7 +62,7 @@ module _ (G : Rules) (P : Lawful G) where
       above d k false e = ap (differ (u d)) e ∙ keep (u d)
 
   -- from value 0 no move leads to value 0
-  leaves-zero : (u : Coins) (c i : ℕ) → Legal G u c i → position-value G u ≡ 0 → position-value G (after G u c i) ≢ 0
+  pub leaves-zero : (u : Coins) (c i : ℕ) → Legal G u c i → position-value G u ≡ 0 → position-value G (after G u c i) ≢ 0
   leaves-zero u c i l e z =
       P .smallest c .misses (record {
         move = i;

@@ -1,0 +1,4 @@
+pub mod Bits
+pub mod Turned
+pub mod RunLaws
+pub mod AdviceLaws

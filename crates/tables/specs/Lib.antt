@@ -1,0 +1,3 @@
+pub mod Coins
+pub mod Calls
+pub mod Runs
