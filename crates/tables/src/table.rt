@@ -65,21 +65,24 @@ impl<G: Game> Table<G> {
     pub fn state(&self) -> State
         ensures { λ r. ⌜ r ≡ now (self .entry) .kept .state ⌝ }
     {
-        self.kept.state
+        let Record { state, .. } = self.kept;
+        state
     }
 
     // The side to move.
     pub fn side(&self) -> Side
         ensures { λ r. ⌜ r ≡ now (self .entry) .kept .side ⌝ }
     {
-        self.kept.side
+        let Record { side, .. } = self.kept;
+        side
     }
 
     // Whether the coin on c shows heads.
     pub fn heads(&self, c: u32) -> bool
         ensures { λ r. ⌜ r ≡ coins (now (self .entry) .kept .position) c ⌝ }
     {
-        self.kept.position.heads(c)
+        let Record { position, .. } = &self.kept;
+        position.heads(c)
     }
 
     // Any of the calls.
