@@ -41,6 +41,14 @@ impl Tally {
     }
 }
 
+pub impl fmt::Display for Tally as TallyDisplay {
+    fn fmt<W: fmt::Write>(&self, f: &mut fmt::Formatter<W>) -> fmt::Result {
+        let agreed = self.agreed;
+        let tried = agreed.saturating_add(self.differed);
+        write!(f, "{tried} tried, {agreed} agreed")
+    }
+}
+
 // What was compared, with its counts.
 #[derive(Clone, Copy)]
 pub struct Section {
@@ -51,8 +59,7 @@ pub struct Section {
 pub impl fmt::Display for Section as SectionDisplay {
     fn fmt<W: fmt::Write>(&self, f: &mut fmt::Formatter<W>) -> fmt::Result {
         let title = self.title;
-        let agreed = self.tally.agreed;
-        let tried = agreed.saturating_add(self.tally.differed);
-        write!(f, "{title}: {tried} tried, {agreed} agreed")
+        let tally = self.tally;
+        write!(f, "{title}: {tally}")
     }
 }
