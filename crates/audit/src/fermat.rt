@@ -1,9 +1,9 @@
 // Products with the Fermat powers F, by Conway's theorem: F ⊗ F is F + F / 2, and F ⊗ x is the
 // common product where x < F. The laws of a field alone would allow another value of F ⊗ F.
 use crate::sample::Triple;
-use crate::tally::Section;
-use crate::tally::Tally;
 use nimbers::product;
+use tallies::Section;
+use tallies::Tally;
 
 const POWERS: [u32; 5] = [2, 4, 16, 256, 65536];
 

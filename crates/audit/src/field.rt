@@ -1,10 +1,10 @@
 // The laws of a field, tried on triples of numbers.
 use crate::sample::Triple;
-use crate::tally::Section;
-use crate::tally::Tally;
 use nimbers::inverse;
 use nimbers::product;
 use nimbers::sum;
+use tallies::Section;
+use tallies::Tally;
 
 #[derive(Clone, Copy)]
 pub enum Law {

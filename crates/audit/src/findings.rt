@@ -1,9 +1,9 @@
 // What was tried of some games, and the lines that tell it.
 ghost use mathlib.Core.Bool.{true};
 ghost use mathlib.Core.Path.{_≡_};
-use crate::tally::Tally;
-use crate::tally::TallyDisplay;
 use std::fmt;
+use tallies::Tally;
+use tallies::TallyDisplay;
 
 #[derive(Clone, Copy)]
 pub struct Findings {

@@ -2,8 +2,6 @@
 ghost use mathlib.Core.Bool.{true};
 ghost use mathlib.Core.Path.{_≡_};
 use crate::rule::Row;
-use crate::tally::Section;
-use crate::tally::Tally;
 use crate::trial::is_off_board;
 use games::Game;
 use games::Ruler;
@@ -18,6 +16,8 @@ use piles::Mix;
 use piles::Product;
 use piles::mix::MixGame;
 use piles::product::ProductGame;
+use tallies::Section;
+use tallies::Tally;
 
 pub fn cells() -> Section {
     let mut tally = Tally::new();

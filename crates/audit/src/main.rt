@@ -1,5 +1,6 @@
 // Checks `nimbers` against products that are found without it and against the laws of a field, and
-// `games` and `piles` against values that are found from their moves alone.
+// `games` and `piles` against values that are found from their moves alone, and `tables` against the
+// rules of play.
 mod fermat;
 mod field;
 mod findings;
@@ -11,7 +12,6 @@ mod rests;
 mod rule;
 mod sample;
 mod shipped;
-mod tally;
 mod trial;
 mod worked;
 
@@ -19,7 +19,7 @@ use field::Law;
 use findings::FindingsDisplay;
 use rule::Row;
 use std::error::AnyError;
-use tally::SectionDisplay;
+use tallies::SectionDisplay;
 
 // Each of these prints what it tried, and answers whether all agreed.
 fn audit_nimbers(rt: &LibcRuntime, rows: &[Row]) -> Result<bool, AnyError> {
@@ -69,12 +69,22 @@ fn audit_large_piles(rt: &LibcRuntime, rows: &[Row]) -> Result<bool, AnyError> {
     Ok(sound)
 }
 
+fn audit_tables(rt: &LibcRuntime) -> Result<bool, AnyError> {
+    let mut sound = true;
+    for section in audit_play::sections(rt.alloc())? {
+        println!(rt, "{section}")?;
+        sound = sound && section.tally.all_agreed();
+    }
+    Ok(sound)
+}
+
 fn run(rt: &LibcRuntime) -> Result<(), AnyError> {
     let rows = rule::rows(rt.alloc())?;
     let nimbers = audit_nimbers(rt, &rows)?;
     let games = audit_games(rt)?;
     let large_piles = audit_large_piles(rt, &rows)?;
-    if nimbers && games && large_piles {
+    let tables = audit_tables(rt)?;
+    if nimbers && games && large_piles && tables {
         Ok(())
     } else {
         Err("some did not agree".into())

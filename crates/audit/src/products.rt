@@ -4,8 +4,8 @@ ghost use mathlib.Core.Path.{_≡_};
 ghost use Prim.Native.Nat.{ℕ, _<_};
 ghost use Rattle.std.specs.Options.{Cases};
 use crate::rule::Row;
-use crate::tally::Section;
-use crate::tally::Tally;
+use tallies::Section;
+use tallies::Tally;
 
 pub fn products(rows: &[Row]) -> Section {
     let mut tally = Tally::new();

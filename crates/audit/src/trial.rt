@@ -9,10 +9,10 @@ use crate::findings::Findings;
 use crate::rests::lowest_move;
 use crate::rests::rests;
 use crate::rests::smallest_missing;
-use crate::tally::Tally;
 use games::Game;
 use std::alloc::Global;
 use std::error::AnyError;
+use tallies::Tally;
 
 // Which of the moves with the same rest a reply may be.
 #[derive(Clone, Copy)]

@@ -1,6 +1,4 @@
 // The worked sums, by the libraries' own answers.
-use crate::tally::Section;
-use crate::tally::Tally;
 use games::Game;
 use games::Ruler;
 use games::Take;
@@ -16,6 +14,8 @@ use piles::Product;
 use piles::product::ProductGame;
 use piles::worked::WorkedSum;
 use piles::worked::worked_sums;
+use tallies::Section;
+use tallies::Tally;
 
 pub fn sums() -> Section {
     let mut tally = Tally::new();
