@@ -56,8 +56,8 @@ pub fn tiny() -> [Recipe; 6] {
     ]
 }
 
-// Boards for runs of calls, some with coins past the first words; the last two have no cells.
-pub fn large() -> [Recipe; 9] {
+// Boards for runs of calls, some with coins past the first words; the last has no cells.
+pub fn large() -> [Recipe; 8] {
     [
         Recipe::new(1, 8, 8, 0),
         Recipe::new(2, 5, 13, 0),
@@ -66,7 +66,6 @@ pub fn large() -> [Recipe; 9] {
         Recipe::new(4, 7, 10, 0b1_0110),
         Recipe::new(5, 6, 6, 0),
         Recipe::new(6, 5, 4, 0),
-        Recipe::new(1, 0, 5, 0),
         Recipe::new(3, 64, 65, 0),
     ]
 }

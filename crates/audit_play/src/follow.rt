@@ -89,15 +89,17 @@ fn follow<G: Game>(table: &mut Table<G>) -> Option<State> {
     }
 }
 
-// Makes every move that side 2 has, each on a table of its own.
+// Makes every move that side 2 has, each on a table of its own. There is one, since the table is playing.
 fn answer<G: Game + Copy + Drop>(
     waiting: &mut Vec<Table<G>>,
     table: &Table<G>,
     search: &Search,
     tally: &mut Tally,
 ) -> Result<(), AllocError> {
+    let mut stuck = true;
     for turn in &search.turns {
         if table.heads(turn.place.cell) {
+            stuck = false;
             let mut next = *table;
             match next.turn(turn.place) {
                 Ok(Answer::Turned(State::Playing)) => waiting.push(next)?,
@@ -105,6 +107,9 @@ fn answer<G: Game + Copy + Drop>(
                 _ => tally.count(false),
             }
         }
+    }
+    if stuck {
+        tally.count(false);
     }
     Ok(())
 }

@@ -1,4 +1,5 @@
 // Numbers and calls that look random, and are the same in each run.
+use crate::record::Record;
 use games::Game;
 use tables::calls::Call;
 use tables::calls::Move;
@@ -35,20 +36,24 @@ impl Generator {
         }
     }
 
-    fn place<G: Game>(&mut self, game: &G) -> Move {
-        let cell = self.near(game.size());
+    // A move, mostly at a head.
+    fn place<G: Game>(&mut self, game: &G, record: &Record) -> Move {
+        let mut cell = self.near(game.size());
+        if self.step() % 4 > 0 {
+            cell = record.head_from(cell);
+        }
         let number = self.near(game.count(cell));
         Move { cell, number }
     }
 
     // Any of the calls, whatever the state.
-    pub fn call<G: Game>(&mut self, game: &G) -> Call {
+    pub fn call<G: Game>(&mut self, game: &G, record: &Record) -> Call {
         match self.step() % 32 {
             0 => Call::Begin,
             1..=2 => Call::Value,
             3..=5 => Call::Advise,
-            6..=9 => Call::Weigh(self.place(game)),
-            10..=18 => Call::Turn(self.place(game)),
+            6..=9 => Call::Weigh(self.place(game, record)),
+            10..=18 => Call::Turn(self.place(game, record)),
             _ => Call::Lay(self.near(game.size())),
         }
     }

@@ -16,7 +16,8 @@ use tables::table::Table;
 pub enum Expected {
     Refused(u32),
     Laid,
-    Comes(State),
+    Begun(State),
+    Turned(State),
     Worth(u32),
     // A move that leaves the value 0, where the value is not 0.
     Advice,
@@ -28,7 +29,7 @@ pub struct Record {
     // Whether each coin shows heads.
     coins: Vec<bool>,
     state: State,
-    // Counts the turns that were made, as far as whether they are odd.
+    // Whether the number of turns that were made is odd.
     odd: bool,
 }
 
@@ -58,6 +59,16 @@ impl Record {
 
     fn heads(&self, c: u32) -> bool {
         self.coins.get(c as usize) == Some(&true)
+    }
+
+    // The first head from c on, or c where there is none.
+    pub fn head_from(&self, c: u32) -> u32 {
+        for (d, coin) in (0..4096u32).zip(&self.coins) {
+            if d >= c && *coin {
+                return d;
+            }
+        }
+        c
     }
 
     fn on_board(&self, c: u32) -> bool {
@@ -93,14 +104,14 @@ impl Record {
     }
 
     // Goes on to playing, or over where no head has a move.
-    fn settle<G: Game>(&mut self, game: &G) -> Expected {
+    fn settle<G: Game>(&mut self, game: &G) -> State {
         self.state = State::Over;
         for (c, coin) in (0..game.size()).zip(&self.coins) {
             if *coin && game.count(c) > 0 {
                 self.state = State::Playing;
             }
         }
-        Expected::Comes(self.state)
+        self.state
     }
 
     fn lay(&mut self, c: u32) -> Expected {
@@ -135,7 +146,7 @@ impl Record {
         }
         self.turn(game, m);
         self.odd = !self.odd;
-        self.settle(game)
+        Expected::Turned(self.settle(game))
     }
 
     fn weigh<G: Game>(&mut self, game: &G, m: Move) -> Expected {
@@ -152,7 +163,7 @@ impl Record {
         }
         match (call, self.state) {
             (Call::Lay(c), State::Setting) => self.lay(c),
-            (Call::Begin, State::Setting) => self.settle(game),
+            (Call::Begin, State::Setting) => Expected::Begun(self.settle(game)),
             (Call::Turn(m), State::Playing) => self.make(game, m),
             (Call::Weigh(m), State::Playing) => self.weigh(game, m),
             (Call::Value, _) => Expected::Worth(self.worth()),
@@ -171,8 +182,8 @@ impl Record {
         match (expected, reply) {
             (Expected::Refused(number), Err(refusal)) => refusal.number() == number,
             (Expected::Laid, Ok(Answer::Laid)) => true,
-            (Expected::Comes(a), Ok(Answer::Begun(b))) => same(a, b),
-            (Expected::Comes(a), Ok(Answer::Turned(b))) => same(a, b),
+            (Expected::Begun(a), Ok(Answer::Begun(b))) => same(a, b),
+            (Expected::Turned(a), Ok(Answer::Turned(b))) => same(a, b),
             (Expected::Worth(a), Ok(Answer::Worth(b))) => a == b,
             (Expected::Advice, Ok(Answer::Advice(None))) => self.worth() == 0,
             (Expected::Advice, Ok(Answer::Advice(Some(m)))) => self.is_good(game, m),

@@ -30,6 +30,9 @@ pub fn calls(heap: Global) -> Result<Section, AllocError> {
     for pile in boards::made(heap, &boards::large())? {
         try_runs(heap, pile, &mut generator, &mut tally)?;
     }
+    for pile in boards::made(heap, &boards::small())? {
+        try_runs(heap, pile, &mut generator, &mut tally)?;
+    }
     try_runs(heap, Turtles::new(40), &mut generator, &mut tally)?;
     try_runs(heap, boards::nested(6), &mut generator, &mut tally)?;
     Ok(Section {
@@ -49,7 +52,7 @@ fn try_runs<G: Game + Copy + Drop>(
         record.clear();
         let mut table = Table::new(game);
         for _ in 0..CALLS {
-            let call = generator.call(&game);
+            let call = generator.call(&game, &record);
             tally.count(agrees(&mut table, &mut record, &game, call));
         }
     }
