@@ -1,6 +1,8 @@
 // Checks `nimbers` against products that are found without it and against the laws of a field, and
 // `games` and `piles` against values that are found from their moves alone, `tables` against the
 // rules of play, and `reports` against a plain reading of files.
+#![tactic(auto)]
+
 mod fermat;
 mod field;
 mod products;

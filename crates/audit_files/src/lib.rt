@@ -1,4 +1,6 @@
 // Checks `reports` against a plain reading of its own.
+#![tactic(auto)]
+
 mod damage;
 mod edges;
 mod known;

@@ -1,4 +1,6 @@
 // Checks `games` and `piles` against values that are found from their moves alone.
+#![tactic(auto)]
+
 pub mod findings;
 mod limits;
 mod nested;

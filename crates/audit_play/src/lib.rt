@@ -1,4 +1,6 @@
 // Checks `tables` against the rules of play, and against a record that it keeps by itself.
+#![tactic(auto)]
+
 mod boards;
 mod follow;
 mod generator;

@@ -1,4 +1,6 @@
 // Games as they are played, from the first coin to the last.
+#![tactic(auto)]
+
 #[cfg(test)]
 mod steps;
 

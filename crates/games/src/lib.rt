@@ -1,4 +1,6 @@
 // Coin-turning games: what a game is, and the four that ship.
+#![tactic(auto)]
+
 mod row;
 pub mod ruler;
 pub mod rules;

@@ -1,4 +1,6 @@
 // The field of 32-bit nimbers: the theorems on which nim products, and the games above them, rest.
+#![tactic(auto)]
+
 ghost use Rattle.std.specs.Prelude.{◌^◌};
 ghost use Rattle.nimber_field.specs.Field.{Field};
 ghost use Rattle.nimber_field.specs.Nimber.{Conway, Only, AllMet, ◌⊕◌, ◌⊗◌};

@@ -1,4 +1,6 @@
 // Nimbers of 32 bits: nim sum, nim product and inverse.
+#![tactic(auto)]
+
 ghost use Rattle.std.specs.Prelude.{◌≡◌, ◌+◌, ◌-◌, ◌*◌, ◌/◌, ◌%◌, ◌^◌, ◌<◌, ◌≤◌, ◌≢◌, MatchOption};
 ghost use Rattle.nimber_field.specs.Missing.{Missing};
 ghost use Rattle.nimber_field.specs.Nimber.{order, times, norm_at, invert, inverse_of, Excluded, ◌⊕◌, ◌⊗◌};

@@ -1,4 +1,6 @@
 // The nim product under C's calling convention, for the benchmark to link.
+#![tactic(auto)]
+
 ghost use Rattle.std.specs.Prelude.{◌≡◌};
 ghost use Rattle.nimber_field.specs.Nimber.{◌⊗◌};
 

@@ -1,4 +1,6 @@
 // Games made of games: mixtures and products, and the numbered piles of them.
+#![tactic(auto)]
+
 pub mod mix;
 pub mod pile;
 pub mod product;

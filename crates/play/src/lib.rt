@@ -1,4 +1,6 @@
 // The rules of play: which positions are won.
+#![tactic(auto)]
+
 ghost use Rattle.play.specs.Play.{Decides};
 
 // Whether the positions of a value are won, in any lawful game.

@@ -1,4 +1,6 @@
 // Reads a transcript from standard input, and prints its lines.
+#![tactic(auto)]
+
 use reports::report;
 use std::io;
 use std::io::{Read, Write};

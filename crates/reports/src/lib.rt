@@ -1,4 +1,6 @@
 // Lines: what the referee writes under each record of a transcript.
+#![tactic(auto)]
+
 mod file;
 mod lines;
 mod outcome;

@@ -1,4 +1,6 @@
 // Counts of comparisons, and the line that tells them.
+#![tactic(auto)]
+
 ghost use Rattle.std.specs.Prelude.{◌≡◌, ◌+◌, ◌-◌, ◌^◌, min, if◌then◌else◌, ◌==◌};
 
 use std::fmt;

@@ -1,4 +1,6 @@
 // A pile that keeps the values of its cells.
+#![tactic(auto)]
+
 ghost use Rattle.std.specs.Prelude.{◌≡◌, ℕ, IfOk, vec_len, slice_index};
 ghost use Rattle.piles.specs.Numbered.{pile_of};
 ghost use Rattle.piles.specs.PileLaws.{pile_lawful, pile_replies};
