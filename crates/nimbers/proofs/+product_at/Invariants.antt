@@ -1,4 +1,4 @@
 use Rattle.nimbers.proofs.+product_at.Given as goal
 
-abbrev pub decreases-product-at : goal.decreases-product-at
-decreases-product-at l = l.level
+abbrev pub decreases-product_at : goal.decreases-product_at
+decreases-product_at l = l.level

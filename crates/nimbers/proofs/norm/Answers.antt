@@ -6,5 +6,5 @@ returns c =
     let below = sum_below c.args.level in
     record {
       value = cc;
-      below = below _ _ (below _ _ c.product-at.ensures.below c.product-at-2.ensures.below) c.product-at-3.ensures.below;
+      below = below _ _ (below _ _ c.product_at.ensures.below c.product_at-2.ensures.below) c.product_at-3.ensures.below;
     }

@@ -7,7 +7,7 @@ use Rattle.nimbers.proofs.product.Goals as goal
 pub returns : goal.returns
 unfolding ◌⊗◌
 returns c =
-    let is = c.product-at.ensures.value in
+    let is = c.product_at.ensures.value in
     record {
       value = is;
       smallest =

@@ -7,6 +7,6 @@ returns c =
     record {
       high = high c.args.level _ b.value b.few c.args.a;
       low = low c.args.level _ b.value b.few c.args.a;
-      high_below = high_part c.args.level _ b.value b.few c.args.a c.requires.1;
+      high_below = high_part c.args.level _ b.value b.few c.args.a c.requires.a_bound;
       low_below = low_part c.args.level _ b.value b.few c.args.a;
     }

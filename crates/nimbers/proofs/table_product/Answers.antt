@@ -23,4 +23,4 @@ at table w a b ha hb =
 
 pub returns : goal.returns
 unfolding Right row times code decode ops
-returns c = at _ refl c.args.a c.args.b c.requires.0 c.requires.1
+returns c = at _ refl c.args.a c.args.b c.requires.a_bound c.requires.b_bound

@@ -8,4 +8,4 @@ has xs n (Some i) e h = (i, h.0, h.1)
 has xs n None e h = absurd (clash e)
 
 pub loop-n-preserved : goal.loop-n-preserved
-loop-n-preserved c = below_more _ _ c.loop-n.invariant (has _ _ c.lowest-move.result c.if-is-none.ensures c.lowest-move.ensures.found)
+loop-n-preserved c = below_more _ _ c.loop-n.invariant (has _ _ c.lowest_move.result c.if-is_none.ensures c.lowest_move.ensures.found)

@@ -9,11 +9,11 @@ unfolding any
 loop-b-init c = refl
 
 pub loop-b-preserved : goal.loop-b-preserved
-loop-b-preserved c = any_more c.loop-b.b-index _ c.loop-b.invariant (sym c.is-bad.ensures ∙ c.if-is-bad.false)
+loop-b-preserved c = any_more c.loop-b.b-index _ c.loop-b.invariant (sym c.is_bad.ensures ∙ c.if-is_bad.false)
 
-pub returns-then-is-bad : goal.returns-then-is-bad
-returns-then-is-bad c =
-    sym (any_at _ _ c.loop-b.b-index (omega (arith, c.loop-b-test.true)) (sym c.is-bad.ensures ∙ c.if-is-bad.true))
+pub returns-then-is_bad : goal.returns-then-is_bad
+returns-then-is_bad c =
+    sym (any_at _ _ c.loop-b.b-index (omega (arith, c.loop-b-test.true)) (sym c.is_bad.ensures ∙ c.if-is_bad.true))
 
 pub returns : goal.returns
 returns c =

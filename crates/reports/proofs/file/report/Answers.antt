@@ -13,9 +13,9 @@ use Rattle.reports.proofs.file.report.Goals as goal
 
 pub loop-given-init : goal.loop-given-init
 loop-given-init c =
-    let e = c.in-ok-referee.ensures in
+    let e = c.in_ok-referee.ensures in
     let same : c.new.result.file.now ≡ c.args.file.now = c.new.ensures in
-    let x = c.in-ok-referee.referee in (
+    let x = c.in_ok-referee.referee in (
       refl,
       e.game ∙ ap game_of same,
       (
@@ -34,10 +34,10 @@ returns-in-Err c =
     let m = met_found (length c.loop-given.line) r (le-ltb (length c.loop-given.line) 128 (omega (arith, i.0))) in
     let f : found r ≡ Err c.in-Err.fault
     = sym m ∙ fault_hit (line_for (pile_of p) (r.read + 1) c.loop-given.referee.table.kept c.step.new.self.table.kept) _ _ e.gives in
-    IfOk-weaker c.with-fault.result _ _
+    IfOk-weaker c.with_fault.result _ _
     (λ v w. reported_so c.args.file.now i.2.0 r _ (vec_items c.loop-given.lines) (fault_line c.in-Err.fault) (vec_items v)
     (subst Lawful i.1 (pile_lawful p)) (subst Replies i.1 (pile_replies p)) i.2.1
-    (subst (λ x. Closes i.2.0 x (fault_line c.in-Err.fault)) (sym f) refl) w) c.with-fault.ensures
+    (subst (λ x. Closes i.2.0 x (fault_line c.in-Err.fault)) (sym f) refl) w) c.with_fault.ensures
 
 pub returns-then-given-eq0 : goal.returns-then-given-eq0
 returns-then-given-eq0 c =
@@ -72,5 +72,5 @@ loop-given-preserved c =
     let a = advance (game_of c.args.file.now) (pile_of c.loop-given.referee.table.game.game) i.1 c.args.file.now i.2.0 r
     (reading c.step.new.self.body) c.loop-given.referee.table.kept c.step.new.self.table.kept (vec_items c.loop-given.lines) _
     c.loop-given.line c.step.new.line _ c.in-Ok.given i.2.1 m e.gives c.if-given-eq0.false e.reading e.run e.writes
-    c.in-ok-add.ensures in
+    c.in_ok-add.ensures in
     (omega (arith, c.step.auto.line, i.0), ap (λ g. pile_of g.game) c.in-Ok.ensures.game ∙ i.1, (i.2.0 ++ (a.0 ∷ []), a.1))

@@ -3,31 +3,31 @@ use Rattle.reports.specs.Lines.{bad_line, in_front, opening}
 use Rattle.reports.proofs.Writing.{close_line, more_line, short_64}
 use Rattle.reports.proofs.lines.put_fault.Goals as goal
 
-pub put-text-word-end-requires : goal.put-text-word-end-requires
-put-text-word-end-requires c = omega (arith, c.put-opening-opening-end.ensures.short, c.put-opening-opening-end.auto.line)
+pub put_text-word_end-requires : goal.put_text-word_end-requires
+put_text-word_end-requires c = omega (arith, c.put_opening-opening_end.ensures.short, c.put_opening-opening_end.auto.line)
 
-pub put-number-place-end-requires : goal.put-number-place-end-requires
-put-number-place-end-requires c =
+pub put_number-place_end-requires : goal.put_number-place_end-requires
+put_number-place_end-requires c =
     omega (
       arith,
       short_64 c.args.place (omega arith),
-      c.put-opening-opening-end.ensures.short,
-      c.put-opening-opening-end.auto.line,
-      c.put-text-word-end.ensures.end,
-      c.put-text-word-end.auto.line,
+      c.put_opening-opening_end.ensures.short,
+      c.put_opening-opening_end.auto.line,
+      c.put_text-word_end.ensures.end,
+      c.put_text-word_end.auto.line,
     )
 
-pub put-text-requires : goal.put-text-requires
-put-text-requires c =
+pub put_text-requires : goal.put_text-requires
+put_text-requires c =
     omega (
       arith,
       short_64 c.args.place (omega arith),
-      c.put-opening-opening-end.ensures.short,
-      c.put-opening-opening-end.auto.line,
-      c.put-text-word-end.ensures.end,
-      c.put-text-word-end.auto.line,
-      c.put-number-place-end.ensures.end,
-      c.put-number-place-end.auto.line,
+      c.put_opening-opening_end.ensures.short,
+      c.put_opening-opening_end.auto.line,
+      c.put_text-word_end.ensures.end,
+      c.put_text-word_end.auto.line,
+      c.put_number-place_end.ensures.end,
+      c.put_number-place_end.auto.line,
     )
 
 regroup : (o at p e : List ℕ) → ((o ++ at) ++ p) ++ e ≡ o ++ ((at ++ p) ++ e)
@@ -38,10 +38,10 @@ returns c =
     let xs = c.args.line.now in
     let o = opening c.args.n (codes " bad") (c.args.number ∷ []) in
     let p = decimal c.args.place in
-    let w = more_line xs _ _ o (codes " at ") _ _ c.put-opening-opening-end.ensures.bytes c.put-opening-opening-end.ensures.end c.put-text-word-end.ensures.bytes
-    c.put-text-word-end.ensures.end in
-    let t = more_line xs _ _ (o ++ codes " at ") p _ _ w.1 w.0 c.put-number-place-end.ensures.bytes c.put-number-place-end.ensures.end in
-    let e = close_line xs _ _ ((o ++ codes " at ") ++ p) (10 ∷ []) _ _ t.1 t.0 c.put-text.ensures.bytes c.put-text.ensures.end in
+    let w = more_line xs _ _ o (codes " at ") _ _ c.put_opening-opening_end.ensures.bytes c.put_opening-opening_end.ensures.end c.put_text-word_end.ensures.bytes
+    c.put_text-word_end.ensures.end in
+    let t = more_line xs _ _ (o ++ codes " at ") p _ _ w.1 w.0 c.put_number-place_end.ensures.bytes c.put_number-place_end.ensures.end in
+    let e = close_line xs _ _ ((o ++ codes " at ") ++ p) (10 ∷ []) _ _ t.1 t.0 c.put_text.ensures.bytes c.put_text.ensures.end in
     record {
       length = e.0 ∙ ap length (regroup o (codes " at ") p (10 ∷ []));
       bytes = e.1 ∙ ap (λ ys. in_front ys xs) (regroup o (codes " at ") p (10 ∷ []));

@@ -12,10 +12,10 @@ loop-n-preserved c =
     let so = fields (take c.loop-n.n-index c.args.numbers.now) in
     let one = 32 ∷ decimal (get_or c.args.numbers.now c.loop-n.n-index 0) in
     let more = fields_more c.args.numbers.now c.loop-n.n-index c.loop-n-test.true in (
-      omega (arith, c.put-field-end.ensures.end, i.0, ap length more, length-append so one),
-      then_over c.args.line.now c.loop-n.line _ c.args.at _ so one (omega arith) i.1 i.0 c.put-field-end.ensures.bytes
+      omega (arith, c.put_field-end.ensures.end, i.0, ap length more, length-append so one),
+      then_over c.args.line.now c.loop-n.line _ c.args.at _ so one (omega arith) i.1 i.0 c.put_field-end.ensures.bytes
           ∙ ap (overwritten c.args.line.now c.args.at) (sym more),
-      omega (arith, i.2, c.put-field-end.ensures.short),
+      omega (arith, i.2, c.put_field-end.ensures.short),
     )
 
 pub returns : goal.returns

@@ -9,5 +9,5 @@ returns c =
     let n : a + (a + length text - a) ≡ a + length text = omega arith in
     record {
       end = refl;
-      bytes = λ i. take a line ++ (c.copy-from-slice.ensures.after i ++ (drop-drop (a + length text - a) a line ∙ ap (λ k. drop k line) n) i);
+      bytes = λ i. take a line ++ (c.copy_from_slice.ensures.after i ++ (drop-drop (a + length text - a) a line ∙ ap (λ k. drop k line) n) i);
     }

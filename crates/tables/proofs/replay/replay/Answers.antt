@@ -15,13 +15,13 @@ loop-call-preserved g c =
     let i = c.loop-call.invariant in
     let more : vec_items c.push.new.self ≡ vec_items c.loop-call.replies ++ (c.call.result ∷ [])
     = c.push.ensures.items
-    ∙ ap (λ r. cond (is_ok r) (vec_items c.loop-call.replies ++ (c.call.result ∷ [])) (vec_items c.loop-call.replies)) c.in-ok-push.was in
+    ∙ ap (λ r. cond (is_ok r) (vec_items c.loop-call.replies ++ (c.call.result ∷ [])) (vec_items c.loop-call.replies)) c.in_ok-push.was in
     let length_is = c.loop-call.replies.ok.0 in
     let next = run_next c.args.calls.now (vec_items c.loop-call.replies) (vec_items c.push.new.self) c.loop-call.call-index _ c.call.result
     c.loop-call-test.true (sym length_is ∙ i.0) more in
     let both = replayed _ _ (ap g.G.Game.rules i.1) _ _ _ _ _ _ next c.call.ensures.answer c.call.ensures.run i.2 i.3 in
     let counted = c.push.ensures.len
-    ∙ ap (λ r. cond (is_ok r) (vec_len c.loop-call.replies + 1) (vec_len c.loop-call.replies)) c.in-ok-push.was
+    ∙ ap (λ r. cond (is_ok r) (vec_len c.loop-call.replies + 1) (vec_len c.loop-call.replies)) c.in_ok-push.was
     ∙ ap (λ n. n + 1) i.0 in
     (counted, c.call.ensures.game ∙ i.1, both.0, both.1)
 

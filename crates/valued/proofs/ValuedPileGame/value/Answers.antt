@@ -11,5 +11,5 @@ item_or_zero xs i (Some x) h = h.1 ∙ get_or_default xs i x.now 0 h.3.0
 
 pub returns : goal.returns
 returns c =
-    c.unwrap-or.ensures ∙ ap (λ o. unwrap_or o 0) c.copied.ensures ∙ item_or_zero _ c.args.c _ c.get.ensures.lookup
+    c.unwrap_or.ensures ∙ ap (λ o. unwrap_or o 0) c.copied.ensures ∙ item_or_zero _ c.args.c _ c.get.ensures.lookup
     ∙ ap (λ xs. get_or xs c.args.c 0) c.deref.ensures.value ∙ c.args.self.now.right c.args.c

@@ -8,7 +8,7 @@ loop-i-init c = (sym (rest_none c.args.c), λ j l e. omega arith)
 
 pub loop-i-preserved : goal.loop-i-preserved
 loop-i-preserved c = (
-  (λ j. c.loop-i.invariant.0 j ⊕ c.mark-at-rest.ensures j) ∙ rest_next c.args.c c.loop-i.i c.loop-i-test.true,
+  (λ j. c.loop-i.invariant.0 j ⊕ c.mark_at-rest.ensures j) ∙ rest_next c.args.c c.loop-i.i c.loop-i-test.true,
   below_more _ _ c.loop-i.invariant.1 (λ e. c.if-rest-w.false (c.loop-i.invariant.0 ∙ e)),
 )
 

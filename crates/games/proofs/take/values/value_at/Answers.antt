@@ -3,18 +3,18 @@ use Rattle.games.specs.TakeValues.{value_in}
 use Rattle.games.specs.TakeValueLaws.{leads_is, top_unled, value_is, value_low}
 use Rattle.games.proofs.take.values.value_at.Goals as goal
 
-pub returns-then-is-none : goal.returns-then-is-none
-returns-then-is-none c =
+pub returns-then-is_none : goal.returns-then-is_none
+returns-then-is_none c =
     let f = value_in c.args.values.now in
     value_is c.args.set f c.args.c c.loop-v.v c.requires.known (omega arith)
-    (leads_is c.args.set f c.args.c c.loop-v.v c.smallest-leading.result c.smallest-leading.ensures ∙ c.if-is-none.ensures)
+    (leads_is c.args.set f c.args.c c.loop-v.v c.smallest_leading.result c.smallest_leading.ensures ∙ c.if-is_none.ensures)
     c.loop-v.invariant
 
 pub loop-v-preserved : goal.loop-v-preserved
 loop-v-preserved c =
     let f = value_in c.args.values.now in
     below_more _ _ c.loop-v.invariant
-    (leads_is c.args.set f c.args.c c.loop-v.v c.smallest-leading.result c.smallest-leading.ensures ∙ c.if-is-none.ensures)
+    (leads_is c.args.set f c.args.c c.loop-v.v c.smallest_leading.result c.smallest_leading.ensures ∙ c.if-is_none.ensures)
 
 -- no value below c is c
 pub returns : goal.returns

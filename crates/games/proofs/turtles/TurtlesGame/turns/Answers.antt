@@ -3,5 +3,5 @@ use Rattle.std.proofs.lemmas.Bool.Decides.{nat_tests}
 use Rattle.games.specs.Pairs.{pairs_up}
 use Rattle.games.proofs.turtles.TurtlesGame.turns.Goals as goal
 
-pub turns-besides-requires : goal.turns-besides-requires
-turns-besides-requires c = grind (arith, nat_tests, pairs_up c.args.c 64)
+pub turns_besides-requires : goal.turns_besides-requires
+turns_besides-requires c = grind (arith, nat_tests, pairs_up c.args.c 64)

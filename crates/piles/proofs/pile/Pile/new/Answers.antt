@@ -53,6 +53,6 @@ returns-in-6 c =
     ap Some (c.new-in-6-5.ensures.game ∙ (λ i. product (mixed i) (c.new-in-6-4.ensures.game i)))
     ∙ ap (λ n. numbered n c.args.w c.args.h c.args.set) (sym c.in-6.is)
 
-pub returns-in-default : goal.returns-in-default
-returns-in-default c =
+pub returns-in_default : goal.returns-in_default
+returns-in_default c =
     unnumbered c.args.number c.args.w c.args.h c.args.set (omega arith) (omega arith) (omega arith) (omega arith) (omega arith) (omega arith)

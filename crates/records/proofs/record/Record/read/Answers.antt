@@ -6,8 +6,8 @@ use Rattle.records.proofs.record.Record.read.Goals as goal
 
 pub returns : goal.returns
 returns c =
-    let so = read_so c.args.file.now c.args.at (framed c.in-ok-kind.field-0) c.in-Some.kind c.in-ok-kind.ensures c.in-Some.ensures (sym c.if-not-fits.ensures) in
+    let so = read_so c.args.file.now c.args.at (framed c.in_ok-kind.field-0) c.in-Some.kind c.in_ok-kind.ensures c.in-Some.ensures (sym c.if-not-fits.ensures) in
     record {
-      reads = ap Ok c.from-body.ensures ∙ so.0;
-      within = subst (λ x. c.args.at.place + item_size x ≤ length c.args.file.now) (sym c.from-body.ensures) so.1;
+      reads = ap Ok c.from_body.ensures ∙ so.0;
+      within = subst (λ x. c.args.at.place + item_size x ≤ length c.args.file.now) (sym c.from_body.ensures) so.1;
     }

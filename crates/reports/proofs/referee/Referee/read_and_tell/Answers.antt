@@ -13,12 +13,12 @@ pub write-requires : goal.write-requires
 write-requires c =
     let item = item_of c.in-Some.record in
     let e : found (reading c.args.self.now.body) ≡ Ok (Some item)
-    = sym c.read.ensures.found ∙ ap as_found (c.in-ok-record.was ∙ ap Ok c.in-Some.is) in
+    = sym c.read.ensures.found ∙ ap as_found (c.in_ok-record.was ∙ ap Ok c.in-Some.is) in
     let G = pile_of c.args.self.now.table.game.game in
     let before = c.args.self.now.table.kept in
     let after = c.tell-outcome.new.table.kept in
     record {
-      room = ltb-false (length c.args.line.now) 128 (sym c.is-small.ensures ∙ c.if-is-small.false);
+      room = ltb-false (length c.args.line.now) 128 (sym c.is_small.ensures ∙ c.if-is_small.false);
       text = step_short G (coins after.position) after.state (reply_for G (coins before.position) before.state item) item (told_of c.tell-outcome.result) (reading c.args.self.now.body) c.tell-outcome.ensures.told e;
     }
 
@@ -30,9 +30,9 @@ returns c =
     let before = c.args.self.now.table.kept in
     let after = c.tell-outcome.new.table.kept in
     let bytes = c.args.line.now in
-    let read : c.read.result ≡ Ok (Some c.in-Some.record) = c.in-ok-record.was ∙ ap Ok c.in-Some.is in
+    let read : c.read.result ≡ Ok (Some c.in-Some.record) = c.in_ok-record.was ∙ ap Ok c.in-Some.is in
     let e : found r ≡ Ok (Some item) = sym c.read.ensures.found ∙ ap as_found read in
-    let m : Ok (Some item) ≡ met (length bytes) r = sym (met_found (length bytes) r (sym c.is-small.ensures ∙ c.if-is-small.false) ∙ e) in
+    let m : Ok (Some item) ≡ met (length bytes) r = sym (met_found (length bytes) r (sym c.is_small.ensures ∙ c.if-is_small.false) ∙ e) in
     let n : c.at-at.result.number ≡ c.args.self.now.body.read + 1 = ap (λ a. a.number) c.at-at.ensures in
     let told : line_of c.at-at.result.number (told_of c.tell-outcome.result) ≡ line_for G (r.read + 1) before after item
     = λ i. line_of (n i) (c.tell-outcome.ensures.told i) in

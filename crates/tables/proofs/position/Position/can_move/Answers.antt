@@ -9,11 +9,11 @@ unfolding any
 loop-c-init g c = refl
 
 pub loop-c-preserved : goal.loop-c-preserved
-loop-c-preserved g c = any_more c.loop-c.c _ c.loop-c.invariant (sym c.has-move-at.ensures ∙ c.if-has-move-at.false)
+loop-c-preserved g c = any_more c.loop-c.c _ c.loop-c.invariant (sym c.has_move_at.ensures ∙ c.if-has_move_at.false)
 
-pub returns-then-has-move-at : goal.returns-then-has-move-at
-returns-then-has-move-at g c =
-    sym (any_at _ _ c.loop-c.c (omega (arith, c.loop-c-test.true, c.size-c-end.ensures)) (sym c.has-move-at.ensures ∙ c.if-has-move-at.true))
+pub returns-then-has_move_at : goal.returns-then-has_move_at
+returns-then-has_move_at g c =
+    sym (any_at _ _ c.loop-c.c (omega (arith, c.loop-c-test.true, c.size-c-end.ensures)) (sym c.has_move_at.ensures ∙ c.if-has_move_at.true))
 
 pub returns : goal.returns
 returns g c =

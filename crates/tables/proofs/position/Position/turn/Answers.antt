@@ -13,7 +13,7 @@ loop-d-preserved g c =
     let G = g.G.Game.rules c.args.game.now in
     let P = g.met.G.Game.lawful c.args.game.now in
     let s = G.holds c.args.m.cell c.args.m.number in
-    c.turn-one.ensures ∙ ap (λ u. turned u (one_held s c.loop-d.d)) c.loop-d.invariant
+    c.turn_one.ensures ∙ ap (λ u. turned u (one_held s c.loop-d.d)) c.loop-d.invariant
     ∙ one_more (coins c.args.self.now) s c.loop-d.d (omega (arith, c.loop-d-test.true, c.min-end.ensures, c.size.ensures, P.cells_bound))
 
 pub returns : goal.returns
@@ -30,7 +30,7 @@ returns g c =
       c.loop-d-test.false,
       c.min-end.ensures,
       c.size.ensures,
-      c.saturating-add.ensures,
+      c.saturating_add.ensures,
       P.cells_bound,
     ) in
     c.loop-d.invariant ∙ all_below (coins c.args.self.now) s c.loop-d.d below

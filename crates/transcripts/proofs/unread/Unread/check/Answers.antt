@@ -4,17 +4,17 @@ use Rattle.transcripts.specs.Readings.{as_first, as_found, found}
 use Rattle.transcripts.proofs.ReadingLaws.{head_first, some_first}
 use Rattle.transcripts.proofs.unread.Unread.check.Goals as goal
 
-pub returns-in-err-record : goal.returns-in-err-record
-returns-in-err-record c =
-    let p = err_from_is_err_and c.from-residual.result c.from-residual.ensures.1 in
-    rw (p.1, p.2) (c.in-err-record.ensures.found ∙ ap found c.new-body.ensures)
+pub returns-in_err-record : goal.returns-in_err-record
+returns-in_err-record c =
+    let p = err_from_is_err_and c.from_residual.result c.from_residual.ensures.1 in
+    rw (p.1, p.2) (c.in_err-record.ensures.found ∙ ap found c.new-body.ensures)
 
 pub returns-in-Some : goal.returns-in-Some
 returns-in-Some c =
     let e = ap (λ o. as_found (Ok o)) (sym c.in-Some.is) in
-    ap as_first c.head-in.ensures ∙ head_first c.args.self.now.file.now _ _ (e ∙ c.in-ok-record.ensures.found ∙ ap found c.new-body.ensures)
+    ap as_first c.head_in.ensures ∙ head_first c.args.self.now.file.now _ _ (e ∙ c.in_ok-record.ensures.found ∙ ap found c.new-body.ensures)
 
 pub returns-in-None : goal.returns-in-None
 returns-in-None c =
     let e = ap (λ o. as_found (Ok o)) (sym c.in-None.is) in
-    absurd (some_first c.args.self.now.file.now (e ∙ c.in-ok-record.ensures.found ∙ ap found c.new-body.ensures))
+    absurd (some_first c.args.self.now.file.now (e ∙ c.in_ok-record.ensures.found ∙ ap found c.new-body.ensures))
