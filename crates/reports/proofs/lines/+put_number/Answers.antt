@@ -8,22 +8,22 @@ use Rattle.reports.proofs.lines.+put_number.Goals as goal
 longer : (n : ℕ) → 10 ≤ n → n < 2 ^ 64 → length (decimal n) ≡ length (decimal (n / 10)) + 1
 longer n h l = ap length (decimal_step n h l) ∙ length-append (decimal (n / 10)) _
 
-pub put-number_end-requires : goal.put-number_end-requires
-put-number_end-requires t c = (omega arith, omega (arith, longer c.args.n c.if-n-lt10.false (omega arith)))
+pub put_number-end-requires : goal.put_number-end-requires
+put_number-end-requires t c = (omega arith, omega (arith, longer c.args.n c.if-n-lt10.false (omega arith)))
 
 pub put_text-requires : goal.put_text-requires
 put_text-requires t c = omega (arith, ap length (decimal_digit c.args.n c.if-n-lt10.true))
 
 pub put_text-requires-2 : goal.put_text-requires-2
 put_text-requires-2 t c =
-    omega (arith, longer c.args.n c.if-n-lt10.false (omega arith), c.put-number_end.ensures.end, c.put-number_end.auto.line)
+    omega (arith, longer c.args.n c.if-n-lt10.false (omega arith), c.put_number-end.ensures.end, c.put_number-end.auto.line)
 
 pub returns : goal.returns
 returns t c =
     let step = decimal_step c.args.n c.if-n-lt10.false (omega arith) in
     record {
-      end = omega (arith, longer c.args.n c.if-n-lt10.false (omega arith), c.put-number_end.ensures.end, c.put_text-2.ensures.end);
-      bytes = then_over c.args.line.now _ _ c.args.at _ (decimal (c.args.n / 10)) _ (omega arith) c.put-number_end.ensures.bytes c.put-number_end.ensures.end
+      end = omega (arith, longer c.args.n c.if-n-lt10.false (omega arith), c.put_number-end.ensures.end, c.put_text-2.ensures.end);
+      bytes = then_over c.args.line.now _ _ c.args.at _ (decimal (c.args.n / 10)) _ (omega arith) c.put_number-end.ensures.bytes c.put_number-end.ensures.end
           c.put_text-2.ensures.bytes ∙ ap (overwritten c.args.line.now c.args.at) (sym step);
     }
 
