@@ -88,15 +88,15 @@ pub fn rugs(heap: Global) -> Result<Vec<u8>, AllocError> {
 
 // Counts whether the plain reading of a file and its report are these lines.
 fn expect(heap: Global, tally: &mut Tally, file: &[u8], lines: &[u8]) -> Result<(), AllocError> {
-    tally.count(plain::lines(heap, file)? == lines);
-    tally.count(reports::report(heap, file)? == lines);
+    tally.count(plain::lines(heap, file)?.as_slice() == lines);
+    tally.count(reports::report(heap, file)?.as_slice() == lines);
     Ok(())
 }
 
 // The builders and the cases.
 pub fn files(heap: Global) -> Result<Section, AllocError> {
     let mut tally = Tally::new();
-    tally.count(rugs(heap)? == RUGS);
+    tally.count(rugs(heap)?.as_slice() == RUGS);
     expect(heap, &mut tally, RUGS, RUGS_LINES)?;
     for (front, back, lines) in &CASES {
         let mut file = Vec::new(heap);

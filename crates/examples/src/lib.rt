@@ -6,7 +6,6 @@ mod steps;
 
 #[cfg(test)]
 mod tests {
-    use games::rules::Game;
     use games::{Game, Twins};
     use piles::Pile;
     use std::test::Fail;

@@ -25,8 +25,8 @@ fn a_small_buffer_is_refused(rt: HostRuntime) -> Result<(), Fail> {
     assert_eq!(rt; small, [35; 127]);
     let mut line = [35; 128];
     assert!(rt; matches!(referee.step(&mut line), Ok(10)));
-    assert_eq!(rt; &line[0..10], b"1 board 4\n");
-    assert_eq!(rt; &line[10..128], &[35; 118]);
+    assert_eq!(rt; &line[0..10], b"1 board 4\n".as_slice());
+    assert_eq!(rt; &line[10..128], [35; 118].as_slice());
     Ok(())
 }
 
@@ -36,7 +36,7 @@ fn nothing_is_written_behind_the_end(rt: HostRuntime) -> Result<(), Fail> {
     let mut line = [0; 128];
     assert!(rt; matches!(referee.step(&mut line), Ok(10)));
     assert!(rt; matches!(referee.step(&mut line), Ok(6)));
-    assert_eq!(rt; &line[0..6], b"2 end\n");
+    assert_eq!(rt; &line[0..6], b"2 end\n".as_slice());
     let mut last = [35; 200];
     assert!(rt; matches!(referee.step(&mut last), Ok(0)));
     assert!(rt; matches!(referee.step(&mut last), Ok(0)));
@@ -55,6 +55,6 @@ fn a_fault_is_met_again(rt: HostRuntime) -> Result<(), Fail> {
     };
     assert!(rt; matches!(fault.layer(), Layer::Bytes));
     assert!(rt; matches!(write_fault(fault, &mut line), Ok(15)));
-    assert_eq!(rt; &line[0..15], b"2 bad 10 at 14\n");
+    assert_eq!(rt; &line[0..15], b"2 bad 10 at 14\n".as_slice());
     Ok(())
 }
