@@ -5,13 +5,4 @@ pub mod Turtles
 pub mod Ruler
 pub mod TakeValues
 pub mod Take
-pub mod RulerLaws
-pub mod Sums
-pub mod RowLaws
-pub mod TurtlesLaws
-pub mod Pairs
-pub mod Odious
-pub mod TwinsLaws
-pub mod TakeLaws
-pub mod AmountLaws
-pub mod TakeValueLaws
+pub mod Laws

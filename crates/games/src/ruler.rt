@@ -3,8 +3,8 @@ ghost use Rattle.std.specs.Prelude.{◌≡◌, ◌<◌};
 ghost use Rattle.games.specs.Rows.{board};
 ghost use Rattle.games.specs.Ruler.{mark, ruler, ruler_of, PowerValues};
 ghost use Rattle.games.specs.Rules.{LowestReplies};
-ghost use Rattle.games.specs.RulerLaws.{ruler_lawful, ruler_lowest};
-ghost use Rattle.games.specs.RowLaws.{lowest_replies};
+ghost use Rattle.games.specs.Laws.RulerLaws.{ruler_lawful, ruler_lowest};
+ghost use Rattle.games.specs.Laws.RowLaws.{lowest_replies};
 
 use crate::row::Row;
 use crate::rules::Game;

@@ -3,8 +3,8 @@ ghost use Rattle.std.specs.Prelude.{◌≡◌, ◌+◌, ◌<◌, ◌≤◌};
 ghost use Rattle.games.specs.Rows.{board};
 ghost use Rattle.games.specs.Rules.{LowestReplies};
 ghost use Rattle.games.specs.Turtles.{besides, in_pair, is_odious, larger, pairs, turtles, turtles_of, TopPower, TurnsThree};
-ghost use Rattle.games.specs.TurtlesLaws.{turtles_lawful, turtles_lowest};
-ghost use Rattle.games.specs.RowLaws.{lowest_replies};
+ghost use Rattle.games.specs.Laws.TurtlesLaws.{turtles_lawful, turtles_lowest};
+ghost use Rattle.games.specs.Laws.RowLaws.{lowest_replies};
 
 use crate::row::Row;
 use crate::rules::Game;

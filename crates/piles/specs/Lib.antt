@@ -1,7 +1,4 @@
 pub mod Layers
 pub mod Numbered
 pub mod Worked
-pub mod MixLaws
-pub mod Blocks
-pub mod PileLaws
-pub mod ProductLaws
+pub mod Laws

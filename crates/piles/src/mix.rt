@@ -1,7 +1,7 @@
 // A mixture: the cells of two games side by side.
 ghost use Rattle.std.specs.Prelude.{◌≡◌};
 ghost use Rattle.piles.specs.Layers.{mixes, mixture};
-ghost use Rattle.piles.specs.MixLaws.{mixture_lawful, mixture_replies};
+ghost use Rattle.piles.specs.Laws.MixLaws.{mixture_lawful, mixture_replies};
 
 use games::Game;
 

@@ -2,7 +2,7 @@
 ghost use Rattle.std.specs.Prelude.{◌≡◌};
 ghost use Rattle.piles.specs.Numbered.{numbered, pile_of};
 ghost use Rattle.std.specs.Option.{option_map};
-ghost use Rattle.piles.specs.PileLaws.{pile_lawful, pile_replies};
+ghost use Rattle.piles.specs.Laws.PileLaws.{pile_lawful, pile_replies};
 
 use crate::mix::Mix;
 use crate::product::Product;

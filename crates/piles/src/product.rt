@@ -3,7 +3,7 @@ ghost use Rattle.std.specs.Prelude.{◌≡◌, ◌<◌, ◌≤◌, MatchOption};
 ghost use Rattle.nimber_field.specs.Nimber.{◌⊕◌, ◌⊗◌, inverse_of};
 ghost use Rattle.piles.specs.Layers.{multiplies, partner, smallest_met, Stands, TartanTheorem};
 ghost use Rattle.piles.specs.Layers.{product as product_of};
-ghost use Rattle.piles.specs.ProductLaws.{product_lawful, product_replies};
+ghost use Rattle.piles.specs.Laws.ProductLaws.{product_lawful, product_replies};
 
 use games::Game;
 

@@ -11,7 +11,7 @@ use Rattle.nimber_field.specs.Tower.{differ}
 use Rattle.nimber_field.specs.Nimber.{◌⊕◌}
 use Rattle.nimber_field.proofs.Products.{xor_twice}
 use Rattle.games.specs.Rules.{Rules, Lawful, nim_sum, sum_held, rest}
-use Rattle.games.specs.Sums.{sum_same, sum_whole}
+use Rattle.games.specs.Laws.Sums.{sum_same, sum_whole}
 use Rattle.play.specs.Play.{Coins, turned, after, Legal, position_value}
 
 -- sums add term by term

@@ -8,8 +8,8 @@ use Rattle.nimber_field.specs.Tower.{differ}
 use Rattle.games.specs.Rules.{Rules, IsRest, Lawful, FreeReply, Replies, rest}
 use Rattle.games.specs.Rows.{first}
 use Rattle.games.specs.TakeValues.{any}
-use Rattle.games.specs.RowLaws.{First, first_exists}
-use Rattle.piles.specs.ProductLaws.{tartan_theorem}
+use Rattle.games.specs.Laws.RowLaws.{First, first_exists}
+use Rattle.piles.specs.Laws.ProductLaws.{tartan_theorem}
 use Rattle.play.specs.Play.{Coins, turned, after, Legal, Won, wins, Lost, position_value}
 use Rattle.play.proofs.Turning.{on_board}
 use Rattle.play.proofs.Theorem.{Winner, winner, move_to_zero, leaves_zero, lost_of, won_of, not_both}

@@ -3,7 +3,7 @@
 
 ghost use Rattle.std.specs.Prelude.{◌≡◌, ℕ, IfOk, vec_len, slice_index};
 ghost use Rattle.piles.specs.Numbered.{pile_of};
-ghost use Rattle.piles.specs.PileLaws.{pile_lawful, pile_replies};
+ghost use Rattle.piles.specs.Laws.PileLaws.{pile_lawful, pile_replies};
 
 use games::Game;
 use piles::Pile;

@@ -3,8 +3,8 @@ ghost use Rattle.std.specs.Prelude.{◌≡◌};
 ghost use Rattle.games.specs.Rows.{board};
 ghost use Rattle.games.specs.Rules.{LowestReplies};
 ghost use Rattle.games.specs.Take.{take_game, take_of, ByAmounts};
-ghost use Rattle.games.specs.TakeLaws.{take_lawful, take_lowest};
-ghost use Rattle.games.specs.RowLaws.{lowest_replies};
+ghost use Rattle.games.specs.Laws.TakeLaws.{take_lawful, take_lowest};
+ghost use Rattle.games.specs.Laws.RowLaws.{lowest_replies};
 
 use super::Take;
 use super::amounts::{amounts_up_to, is_amount, smaller_amounts};

@@ -1,7 +1,7 @@
 use lib.Bits.{bit_xor}
 use Rattle.std.proofs.Common.{◌≡◌, ℕ, ◌+◌, Bool, true, false, get_or, sym, refl, ap, ◌∙◌, add-one}
 use Rattle.games.specs.Rules.{nim_sum, sum_held}
-use Rattle.games.specs.Sums.{held_last, lacks_last}
+use Rattle.games.specs.Laws.Sums.{held_last, lacks_last}
 use Rattle.audit_games.proofs.rests.rest.Goals as goal
 use Rattle.audit_games.proofs.rests.rest.Goals.{then-turns, else-turns}
 

@@ -1,5 +1,5 @@
 use Rattle.std.proofs.Common.{◌+◌, sym, arith}
-use Rattle.games.specs.Pairs.{pairs_order, larger_is}
+use Rattle.games.specs.Laws.Pairs.{pairs_order, larger_is}
 use Rattle.games.proofs.turtles.larger_of.Goals as goal
 
 pub loop-b-preserved : goal.loop-b-preserved

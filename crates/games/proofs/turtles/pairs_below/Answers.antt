@@ -1,6 +1,6 @@
 use Rattle.std.proofs.Common.{◌≡◌, ◌*◌, ◌/◌, ap, arith}
 use Rattle.games.specs.Turtles.{pairs}
-use Rattle.games.specs.Pairs.{pairs_up}
+use Rattle.games.specs.Laws.Pairs.{pairs_up}
 use Rattle.games.proofs.turtles.pairs_below.Goals as goal
 
 pub returns : goal.returns

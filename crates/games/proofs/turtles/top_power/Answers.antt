@@ -2,7 +2,7 @@ use Rattle.std.proofs.Common.{◌-◌, sym, subst, arith}
 use lib.Count.{count_leading_zeros}
 use Rattle.std.proofs.lemmas.Nat.{one_shl}
 use Rattle.games.specs.Turtles.{TopPower}
-use Rattle.games.specs.Odious.{top_is}
+use Rattle.games.specs.Laws.Odious.{top_is}
 use Rattle.games.proofs.turtles.top_power.Goals as goal
 
 pub returns : goal.returns

@@ -2,7 +2,7 @@ use Rattle.std.proofs.Common.{◌≡◌, ◌<◌, ltb, sym, ap, ◌∙◌, arith
 use borrow.Author.Tests.{both_ways}
 use Rattle.nimber_field.specs.Nimber.{◌⊕◌, ◌⊗◌, inverse_of, Met}
 use Rattle.nimber_field.proofs.Conway.{all_met}
-use Rattle.games.specs.RowLaws.{first_is}
+use Rattle.games.specs.Laws.RowLaws.{first_is}
 use Rattle.piles.specs.Layers.{partner, smallest_met}
 use Rattle.piles.proofs.product.met.Goals as goal
 

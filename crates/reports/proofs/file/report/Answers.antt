@@ -2,7 +2,7 @@ use Rattle.std.proofs.Common.{◌≡◌, ◌+◌, ◌≤◌, [], ◌∷◌, ◌+
 use Rattle.std.proofs.lemmas.Result.{IfOk-weaker}
 use Rattle.games.specs.Rules.{Lawful, Replies}
 use Rattle.piles.specs.Numbered.{pile_of}
-use Rattle.piles.specs.PileLaws.{pile_lawful, pile_replies}
+use Rattle.piles.specs.Laws.PileLaws.{pile_lawful, pile_replies}
 use Rattle.tables.specs.Runs.{Stands}
 use Rattle.transcripts.specs.Readings.{found, reading, start}
 use Rattle.reports.specs.Reports.{Closes, Reported, fault_line}

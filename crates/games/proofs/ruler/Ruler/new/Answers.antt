@@ -1,6 +1,6 @@
 use Rattle.std.proofs.Common.{ap}
 use Rattle.games.specs.Ruler.{ruler}
-use Rattle.games.specs.RulerLaws.{ruler_lowest, ruler_powers}
+use Rattle.games.specs.Laws.RulerLaws.{ruler_lowest, ruler_powers}
 use Rattle.games.proofs.ruler.Ruler.new.Goals as goal
 
 pub returns : goal.returns

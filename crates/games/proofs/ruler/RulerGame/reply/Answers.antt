@@ -1,6 +1,6 @@
 use Rattle.std.proofs.Common.{sym, ◌∙◌, arith, below_more}
 use Rattle.nimber_field.specs.Nimber.{◌⊕◌}
-use Rattle.games.specs.RulerLaws.{rest_none, rest_next, ruler_answer, last_answer}
+use Rattle.games.specs.Laws.RulerLaws.{rest_none, rest_next, ruler_answer, last_answer}
 use Rattle.games.proofs.ruler.RulerGame.reply.Goals as goal
 
 pub loop-i-init : goal.loop-i-init

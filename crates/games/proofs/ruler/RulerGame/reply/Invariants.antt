@@ -1,5 +1,5 @@
 use Rattle.std.proofs.Common.{◌≡◌}
-use Rattle.games.specs.RulerLaws.{rest_at, NoneBefore}
+use Rattle.games.specs.Laws.RulerLaws.{rest_at, NoneBefore}
 use Rattle.games.proofs.ruler.RulerGame.reply.Given as goal
 
 abbrev pub invariant-loop-i : goal.invariant-loop-i

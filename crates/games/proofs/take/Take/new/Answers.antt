@@ -1,6 +1,6 @@
 use Rattle.std.proofs.Common.{sym, ap, subst}
 use Rattle.games.specs.Take.{take_game, ByAmounts}
-use Rattle.games.specs.TakeLaws.{take_lowest, take_amounts}
+use Rattle.games.specs.Laws.TakeLaws.{take_lowest, take_amounts}
 use Rattle.games.proofs.take.Take.new.Goals as goal
 
 pub returns : goal.returns

@@ -1,6 +1,6 @@
 use Rattle.std.proofs.Common.{◌∙◌, arith, below_more}
 use Rattle.games.specs.TakeValues.{value_in}
-use Rattle.games.specs.TakeValueLaws.{leads_is, top_unled, value_is, value_low}
+use Rattle.games.specs.Laws.TakeValueLaws.{leads_is, top_unled, value_is, value_low}
 use Rattle.games.proofs.take.values.value_at.Goals as goal
 
 pub returns-then-is_none : goal.returns-then-is_none

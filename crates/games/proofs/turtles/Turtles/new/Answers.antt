@@ -1,6 +1,6 @@
 use Rattle.std.proofs.Common.{ap}
 use Rattle.games.specs.Turtles.{turtles}
-use Rattle.games.specs.TurtlesLaws.{turtles_lowest, turtles_triples}
+use Rattle.games.specs.Laws.TurtlesLaws.{turtles_lowest, turtles_triples}
 use Rattle.games.proofs.turtles.Turtles.new.Goals as goal
 
 pub returns : goal.returns

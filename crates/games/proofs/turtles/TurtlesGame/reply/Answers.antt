@@ -1,8 +1,8 @@
 use Rattle.std.proofs.Common.{◌+◌, ◌-◌, ◌/◌, Some, sym, ap, ◌∙◌, arith, eqb-true}
 use borrow.Author.Tests.{eqb-false}
 use Rattle.std.proofs.lemmas.Bool.Decides.{nat_tests}
-use Rattle.games.specs.Odious.{even_half, odious_half}
-use Rattle.games.specs.TurtlesLaws.{best_one, best_two, best_three, turtles_answer}
+use Rattle.games.specs.Laws.Odious.{even_half, odious_half}
+use Rattle.games.specs.Laws.TurtlesLaws.{best_one, best_two, best_three, turtles_answer}
 use Rattle.games.proofs.turtles.TurtlesGame.reply.Goals as goal
 
 pub top_power-b-requires : goal.top_power-b-requires

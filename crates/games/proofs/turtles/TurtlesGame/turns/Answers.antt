@@ -1,6 +1,6 @@
 use Rattle.std.proofs.Common.{arith}
 use Rattle.std.proofs.lemmas.Bool.Decides.{nat_tests}
-use Rattle.games.specs.Pairs.{pairs_up}
+use Rattle.games.specs.Laws.Pairs.{pairs_up}
 use Rattle.games.proofs.turtles.TurtlesGame.turns.Goals as goal
 
 pub turns_besides-requires : goal.turns_besides-requires

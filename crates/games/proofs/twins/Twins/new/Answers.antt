@@ -1,6 +1,6 @@
 use Rattle.std.proofs.Common.{ap}
 use Rattle.games.specs.Twins.{twins}
-use Rattle.games.specs.TwinsLaws.{twins_lowest}
+use Rattle.games.specs.Laws.TwinsLaws.{twins_lowest}
 use Rattle.games.proofs.twins.Twins.new.Goals as goal
 
 pub returns : goal.returns

@@ -1,5 +1,5 @@
 use Rattle.std.proofs.Common.{arith}
-use Rattle.games.specs.TwinsLaws.{twins_answer}
+use Rattle.games.specs.Laws.TwinsLaws.{twins_answer}
 use Rattle.games.proofs.twins.TwinsGame.reply.Goals as goal
 
 pub returns-then-w-value : goal.returns-then-w-value

@@ -1,5 +1,5 @@
 use Rattle.std.proofs.Common.{refl}
-use Rattle.piles.specs.ProductLaws.{tartan_theorem}
+use Rattle.piles.specs.Laws.ProductLaws.{tartan_theorem}
 use Rattle.piles.proofs.product.Product.new.Goals as goal
 
 pub returns : goal.returns

@@ -1,5 +1,5 @@
 use Rattle.std.proofs.Common.{sym}
-use Rattle.piles.specs.ProductLaws.{product_lawful, moves_fit}
+use Rattle.piles.specs.Laws.ProductLaws.{product_lawful, moves_fit}
 use Rattle.piles.proofs.product.ProductGame.count.Goals as goal
 
 pub overflow_mul-result : goal.overflow_mul-result

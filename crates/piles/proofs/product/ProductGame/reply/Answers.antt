@@ -1,5 +1,5 @@
 use Rattle.std.proofs.Common.{◌+◌, ◌*◌, ◌^◌, ◌<◌, sym, ◌∙◌, arith}
-use Rattle.piles.specs.ProductLaws.{product_lawful, product_replies, answer_off, reply_fits}
+use Rattle.piles.specs.Laws.ProductLaws.{product_lawful, product_replies, answer_off, reply_fits}
 use Rattle.piles.proofs.product.ProductGame.reply.Goals as goal
 use Rattle.piles.proofs.product.ProductGame.reply.Given as given
 

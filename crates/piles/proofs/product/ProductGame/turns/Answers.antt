@@ -1,4 +1,4 @@
-use Rattle.piles.specs.ProductLaws.{product_lawful, holds_off, moves_fit}
+use Rattle.piles.specs.Laws.ProductLaws.{product_lawful, holds_off, moves_fit}
 use Rattle.piles.proofs.product.ProductGame.turns.Goals as goal
 
 pub returns-in_default : goal.returns-in_default

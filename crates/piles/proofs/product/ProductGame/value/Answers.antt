@@ -1,5 +1,5 @@
 use Rattle.std.proofs.Common.{sym}
-use Rattle.piles.specs.ProductLaws.{product_lawful}
+use Rattle.piles.specs.Laws.ProductLaws.{product_lawful}
 use Rattle.piles.proofs.product.ProductGame.value.Goals as goal
 
 pub returns-in-None : goal.returns-in-None

@@ -1,5 +1,5 @@
 use Rattle.std.proofs.Common.{sym, ◌∙◌, arith}
-use Rattle.games.specs.RowLaws.{first_is}
+use Rattle.games.specs.Laws.RowLaws.{first_is}
 use Rattle.tables.proofs.table.Table.lowest_head.Goals as goal
 
 pub returns-then-is_lower : goal.returns-then-is_lower

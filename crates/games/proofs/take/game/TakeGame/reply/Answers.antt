@@ -1,5 +1,5 @@
 use Rattle.std.proofs.Common.{Some, None, ap, ◌∙◌, arith}
-use Rattle.games.specs.TakeLaws.{take_reply}
+use Rattle.games.specs.Laws.TakeLaws.{take_reply}
 use Rattle.games.proofs.take.game.TakeGame.reply.Goals as goal
 
 pub returns-in-Some : goal.returns-in-Some

@@ -9,10 +9,10 @@ use Rattle.games.specs.Rules.{sum_held, Lawful, LowestReplies}
 use Rattle.games.specs.Rows.{on}
 use Rattle.games.specs.TakeValues.{amount, amounts_up_to, smaller, SmallestLeading, take_value}
 use Rattle.games.specs.Take.{taken, take_game, how_many, ByAmounts}
-use Rattle.games.specs.Sums.{sum_one}
-use Rattle.games.specs.RowLaws.{RowLaws, row_lawful, row_lowest, answer_is}
-use Rattle.games.specs.AmountLaws.{Nth, nth, amounts_mono, amount_pos, amount_counts, amounts_all, how_many_is}
-use Rattle.games.specs.TakeValueLaws.{lower, value_low, value_unled, value_led}
+use Rattle.games.specs.Laws.Sums.{sum_one}
+use Rattle.games.specs.Laws.RowLaws.{RowLaws, row_lawful, row_lowest, answer_is}
+use Rattle.games.specs.Laws.AmountLaws.{Nth, nth, amounts_mono, amount_pos, amount_counts, amounts_all, how_many_is}
+use Rattle.games.specs.Laws.TakeValueLaws.{lower, value_low, value_unled, value_led}
 
 module _ (set : ℕ) where
   -- amount s is one of the moves at c

@@ -5,8 +5,8 @@ use Rattle.std.proofs.lemmas.Bool.Decides.{nat_tests}
 use Rattle.games.specs.Rules.{sum_held, Lawful, LowestReplies}
 use Rattle.games.specs.Rows.{on}
 use Rattle.games.specs.Twins.{twins}
-use Rattle.games.specs.Sums.{sum_one}
-use Rattle.games.specs.RowLaws.{RowLaws, row_lawful, row_lowest, answer_is}
+use Rattle.games.specs.Laws.Sums.{sum_one}
+use Rattle.games.specs.Laws.RowLaws.{RowLaws, row_lawful, row_lowest, answer_is}
 
 rest_is : (c i : ℕ) → i < c → sum_held c (λ d. (d == c) || d == i) (λ d. d) ≡ i
 rest_is c i h = sum_one (λ d. d) c i (λ d. (d == c) || d == i) h (grind (arith, nat_tests)) (λ d l n. grind (arith, nat_tests))

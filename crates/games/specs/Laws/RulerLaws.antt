@@ -12,8 +12,8 @@ use Rattle.nimber_field.specs.Nimber.{◌⊕◌}
 use Rattle.games.specs.Rules.{nim_sum, sum_held, Lawful, LowestReplies}
 use Rattle.games.specs.Rows.{on}
 use Rattle.games.specs.Ruler.{run, mark, ruler, LargestPower, PowerValues}
-use Rattle.games.specs.Sums.{sum_none, sum_from}
-use Rattle.games.specs.RowLaws.{RowLaws, row_lawful, row_lowest, answer_is}
+use Rattle.games.specs.Laws.Sums.{sum_none, sum_from}
+use Rattle.games.specs.Laws.RowLaws.{RowLaws, row_lawful, row_lowest, answer_is}
 
 cancel : (a b : ℕ) → (a ⊕ b) ⊕ b ≡ a
 cancel a b = xor_assoc a b b ∙ ap (λ s. a ⊕ s) (xor_self b) ∙ xor_zero_r a

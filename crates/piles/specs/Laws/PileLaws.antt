@@ -8,11 +8,11 @@ use Rattle.games.specs.declared.ruler.Ruler.{Ruler}
 use Rattle.games.specs.declared.take.Take.{Take}
 use Rattle.games.specs.declared.turtles.Turtles.{Turtles}
 use Rattle.games.specs.declared.twins.Twins.{Twins}
-use Rattle.games.specs.RowLaws.{lowest_replies}
-use Rattle.games.specs.RulerLaws.{ruler_lawful, ruler_lowest}
-use Rattle.games.specs.TakeLaws.{take_lawful, take_lowest}
-use Rattle.games.specs.TurtlesLaws.{turtles_lawful, turtles_lowest}
-use Rattle.games.specs.TwinsLaws.{twins_lawful, twins_lowest}
+use Rattle.games.specs.Laws.RowLaws.{lowest_replies}
+use Rattle.games.specs.Laws.RulerLaws.{ruler_lawful, ruler_lowest}
+use Rattle.games.specs.Laws.TakeLaws.{take_lawful, take_lowest}
+use Rattle.games.specs.Laws.TurtlesLaws.{turtles_lawful, turtles_lowest}
+use Rattle.games.specs.Laws.TwinsLaws.{twins_lawful, twins_lowest}
 use Rattle.piles.specs.Numbered.{pile_of}
 use Rattle.piles.specs.declared.pile.Pile.{Pile}
 use Rattle.piles.specs.declared.pile.Pile.TheVariants.{
@@ -23,8 +23,8 @@ use Rattle.piles.specs.declared.pile.Pile.TheVariants.{
   CornersAndRugs,
   MixedByTwins,
 }
-use Rattle.piles.specs.MixLaws.{mixture_lawful, mixture_replies}
-use Rattle.piles.specs.ProductLaws.{product_lawful, product_replies}
+use Rattle.piles.specs.Laws.MixLaws.{mixture_lawful, mixture_replies}
+use Rattle.piles.specs.Laws.ProductLaws.{product_lawful, product_replies}
 
 twins_law : (g : Twins) → Lawful (twins_of g)
 twins_law g = twins_lawful g.row.size g.row.few

@@ -8,11 +8,11 @@ use Rattle.nimber_field.specs.Nimber.{◌⊕◌}
 use Rattle.games.specs.Rules.{sum_held, Lawful, LowestReplies}
 use Rattle.games.specs.Rows.{on}
 use Rattle.games.specs.Turtles.{pairs, larger, moves, turned, odious, turtles, TopPower, TurnsThree}
-use Rattle.games.specs.Sums.{sum_none, sum_one, sum_two}
-use Rattle.games.specs.Pairs.{pairs_more, pairs_up, larger_is, pair_of}
-use Rattle.games.specs.Odious.{ones_zero, ones_sum, odious_half, odious_odd, odd_odious, odious_order, even_half}
-use Rattle.games.specs.Odious.{top_is, twice_top, top_sum, ones_top, odious_top}
-use Rattle.games.specs.RowLaws.{RowLaws, row_lawful, row_lowest, answer_is}
+use Rattle.games.specs.Laws.Sums.{sum_none, sum_one, sum_two}
+use Rattle.games.specs.Laws.Pairs.{pairs_more, pairs_up, larger_is, pair_of}
+use Rattle.games.specs.Laws.Odious.{ones_zero, ones_sum, odious_half, odious_odd, odd_odious, odious_order, even_half}
+use Rattle.games.specs.Laws.Odious.{top_is, twice_top, top_sum, ones_top, odious_top}
+use Rattle.games.specs.Laws.RowLaws.{RowLaws, row_lawful, row_lowest, answer_is}
 
 -- a move by its kind
 data Kind (c i : ℕ) : Type 0 where

@@ -10,8 +10,8 @@ use Rattle.std.proofs.lemmas.Bool.{and_parts, and_from, not_from_true, not_from_
 use Rattle.std.proofs.lemmas.Bool.Decides.{Decides-below_or, Decides-like, Decides-not, not_from_Decides, same_from_decides}
 use Rattle.games.specs.Rows.{first}
 use Rattle.games.specs.TakeValues.{amount, any, leading, leads, missing, SmallestLeading, value_in, take_values, take_value}
-use Rattle.games.specs.AmountLaws.{amount_pos}
-use Rattle.games.specs.RowLaws.{First, first_exists, first_is}
+use Rattle.games.specs.Laws.AmountLaws.{amount_pos}
+use Rattle.games.specs.Laws.RowLaws.{First, first_exists, first_is}
 
 -- an amount that leads from c to a cell of value v
 pub record Lead (set : ℕ) (value : ℕ → ℕ) (c v : ℕ) : Type 0 where

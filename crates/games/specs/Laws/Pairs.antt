@@ -3,7 +3,7 @@ use Rattle.std.specs.Prelude.{◌≡◌, ℕ, zero, suc, ◌+◌, ◌-◌, ◌*�
 use Rattle.std.proofs.Common.{ap, ◌∙◌, suc-mul, mul-suc, add-one, arith, lt-ltb, le-ltb}
 use Rattle.std.proofs.Math.Decide.{dec_lt, le_ind}
 use Rattle.games.specs.Turtles.{pairs, larger}
-use Rattle.games.specs.RowLaws.{first_is}
+use Rattle.games.specs.Laws.RowLaws.{first_is}
 
 -- the pairs below b + 1 are those below b, and those of b
 pairs_suc : (b : ℕ) → pairs (suc b) ≡ pairs b + b

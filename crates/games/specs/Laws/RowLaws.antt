@@ -7,7 +7,7 @@ use borrow.Author.Tests.{lt-ltb, le-ltb, ltb-true, ltb-false, eq-eqb, ne_eqb, eq
 use Rattle.nimber_field.specs.Missing.{Missing}
 use Rattle.games.specs.Rules.{Rules, nim_sum, sum_held, rest, IsRest, Lawful, LowestReply, LowestReplies, FreeReply, Replies}
 use Rattle.games.specs.Rows.{on, listed, first, row_game}
-use Rattle.games.specs.Sums.{sum_same}
+use Rattle.games.specs.Laws.Sums.{sum_same}
 
 -- what is to be shown at the cells of the row
 pub record RowLaws (size ceiling : ℕ) (count : ℕ → ℕ) (turns : ℕ → ℕ → ℕ → Bool) (value : ℕ → ℕ) : Type 0 where

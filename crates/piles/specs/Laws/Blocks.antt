@@ -7,7 +7,7 @@ use Rattle.nimber_field.specs.Missing.{Missing}
 use Rattle.nimber_field.specs.Nimber.{◌⊕◌, ◌⊗◌}
 use Rattle.nimber_field.proofs.Products.{Small, product_zero, zero_product, distributes, distributes_left}
 use Rattle.games.specs.Rules.{nim_sum, sum_held}
-use Rattle.games.specs.Sums.{sum_same, sum_below}
+use Rattle.games.specs.Laws.Sums.{sum_same, sum_below}
 
 -- the sum over m + n numbers is that over the first m and that over the next n
 pub sum_append : (m n : ℕ) (f : ℕ → ℕ) → nim_sum (m + n) f ≡ nim_sum m f ⊕ nim_sum n (λ d. f (m + d))

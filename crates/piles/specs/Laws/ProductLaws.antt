@@ -24,11 +24,11 @@ use Rattle.nimber_field.proofs.Products.{
   partner_is,
 }
 use Rattle.games.specs.Rules.{Rules, nim_sum, sum_held, rest, IsRest, Lawful, FreeReply, Replies}
-use Rattle.games.specs.Sums.{sum_same, sum_whole}
-use Rattle.games.specs.RowLaws.{First, first_exists}
+use Rattle.games.specs.Laws.Sums.{sum_same, sum_whole}
+use Rattle.games.specs.Laws.RowLaws.{First, first_exists}
 use Rattle.piles.specs.Layers.{limited, partner, smallest_met, paired, met_answer, crossed, multiplies, product, Tartan, TartanTheorem}
-use Rattle.piles.specs.Blocks.{sum_crossed, held_sum_small}
-use Rattle.piles.specs.MixLaws.{limited_lawful, limited_replies}
+use Rattle.piles.specs.Laws.Blocks.{sum_crossed, held_sum_small}
+use Rattle.piles.specs.Laws.MixLaws.{limited_lawful, limited_replies}
 
 both_true : (p q : Bool) → p && q ≡ true → (p ≡ true) × (q ≡ true)
 both_true true q e = (refl, e)

@@ -8,9 +8,9 @@ use Rattle.std.proofs.lemmas.Bool.Decides.{nat_tests}
 use Rattle.nimber_field.specs.Missing.{Missing}
 use Rattle.nimber_field.specs.Nimber.{◌⊕◌}
 use Rattle.games.specs.Rules.{Rules, nim_sum, rest, IsRest, Lawful, FreeReply, Replies}
-use Rattle.games.specs.Sums.{sum_same, sum_zero}
+use Rattle.games.specs.Laws.Sums.{sum_same, sum_zero}
 use Rattle.piles.specs.Layers.{no_game, limited, side_by_side, mixes, mixture}
-use Rattle.piles.specs.Blocks.{sum_append, missing_of}
+use Rattle.piles.specs.Laws.Blocks.{sum_append, missing_of}
 
 pub no_game_lawful : Lawful no_game
 no_game_lawful = record {
