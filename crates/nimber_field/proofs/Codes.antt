@@ -1,20 +1,19 @@
 -- The elements of a level written as numbers: sums are exclusive or, and the order is that of numbers. Assumes nothing.
 use mathlib.Core.Path.{◌≡◌, refl, sym, ap, ◌∙◌, subst}
-use mathlib.Core.Bool.{Bool, true, false}
-use mathlib.Core.Logic.{◌⊎◌, inl, inr, ◌≢◌}
-use Prim.Native.Nat.{ℕ, zero, suc, ◌+◌, ◌*◌, ◌/◌, ◌%◌, ◌-◌, ◌^◌, ◌<◌, ◌≤◌}
+use mathlib.Core.Bool.{true, false}
+use mathlib.Core.Logic.{inl, inr}
+use Prim.Native.Nat.{ℕ, zero, suc, ◌+◌, ◌*◌, ◌/◌, ◌%◌, ◌-◌, ◌^◌, ◌<◌}
 use native.Mathlib.Nat.{two-pow-succ, div-add-mod', mod-lt, div-lt_iff_lt-mul, mul-le-mul_right}
 use native.Mathlib.Decide.{dec_lt}
 use native.Mathlib.Omega.{arith}
 use lib.Arith.{digits_lt, digits_div, digits_mod}
 use lib.Bits.{bit_xor, xor_block}
-use lib.Dec.{eqb, lit<}
+use lib.Dec.{lit<}
 use lib.Pow.{pow_pos, pow-add}
-use Rattle.nimber_field.specs.Tower.{Ops, differ, Tower, ops}
+use Rattle.nimber_field.specs.Tower.{Tower, ops}
 use Rattle.nimber_field.specs.Nimber.{order, code, decode}
 use Rattle.nimber_field.proofs.Ring.{add_twice}
-use Rattle.nimber_field.proofs.Laws.{Tools, Laws}
-use Rattle.nimber_field.proofs.Levels.{BitLower, tools, laws}
+use Rattle.nimber_field.proofs.Levels.{tools, laws}
 
 pub order_pos : (k : ℕ) → 0 < order k
 order_pos k = pow_pos (2 ^ k)

@@ -1,5 +1,5 @@
 -- The product of a level keeps Conway's rule, which has one solution. Assumes nothing.
-use mathlib.Core.Path.{◌≡◌, refl, sym, ap, ◌∙◌, subst}
+use mathlib.Core.Path.{◌≡◌, sym, ap, ◌∙◌, subst}
 use mathlib.Core.Logic.{◌≢◌}
 use Prim.Native.Nat.{ℕ, zero, suc, ◌+◌, ◌^◌, ◌<◌, ◌≤◌}
 use native.Mathlib.Decide.{dec_lt}
@@ -8,24 +8,10 @@ use native.Mathlib.Omega.{arith}
 use lib.Bits.{bit_xor}
 use Rattle.nimber_field.specs.Missing.{Missing}
 use Rattle.nimber_field.specs.Tower.{Tower, ops}
-use Rattle.nimber_field.specs.Nimber.{
-  order,
-  code,
-  decode,
-  times,
-  invert,
-  ◌⊕◌,
-  ◌⊗◌,
-  inverse_of,
-  Excluded,
-  Conway,
-  Only,
-  Met,
-  AllMet,
-}
+use Rattle.nimber_field.specs.Nimber.{order, code, decode, times, invert, ◌⊕◌, ◌⊗◌, inverse_of, Excluded, Conway, Only, AllMet}
 use Rattle.nimber_field.specs.Field.{Field}
 use Rattle.nimber_field.proofs.Ring.{ring, add_twice}
-use Rattle.nimber_field.proofs.Laws.{Tools, Laws, Factors, cancel, divided}
+use Rattle.nimber_field.proofs.Laws.{Factors, cancel, divided}
 use Rattle.nimber_field.proofs.Levels.{tools, laws}
 use Rattle.nimber_field.proofs.Codes.{code_below, decode_code, code_decode, code_add, lower_less, less_lower}
 use Rattle.nimber_field.proofs.Numbers.{times_below, decode_times, decode_sum, decode_injective, sum_below, field}

@@ -7,9 +7,8 @@ use lib.Bits.{bit_xor}
 use Rattle.nimber_field.specs.Tower.{Tower, ops}
 use Rattle.nimber_field.specs.Nimber.{order, code, decode, times, norm_at, invert, ◌⊕◌}
 use Rattle.nimber_field.proofs.Ring.{ring}
-use Rattle.nimber_field.proofs.Laws.{Laws}
 use Rattle.nimber_field.proofs.Levels.{laws}
-use Rattle.nimber_field.proofs.Codes.{code_below, decode_code, code_decode, code_add, code_half, code_nil, high_below, low_below}
+use Rattle.nimber_field.proofs.Codes.{decode_code, code_decode, code_add, code_half, code_nil, high_below, low_below}
 use Rattle.nimber_field.proofs.Numbers.{decode_sum, decode_zero, sum_below, times_below}
 
 module _ (k : ℕ) where

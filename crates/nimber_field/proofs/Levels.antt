@@ -1,9 +1,9 @@
 -- The laws at every level of the tower. Assumes nothing.
-use mathlib.Core.Path.{◌≡◌, refl, sym, ap}
+use mathlib.Core.Path.{◌≡◌, refl}
 use mathlib.Core.Bool.{Bool, true, false, true≢false, false≢true}
 use mathlib.Core.Logic.{◌⊎◌, inl, inr, ◌≢◌}
 use Prim.Native.Nat.{ℕ, zero, suc}
-use Rattle.nimber_field.specs.Tower.{Ops, bits, differ, Tower, ops}
+use Rattle.nimber_field.specs.Tower.{bits, differ, Tower, ops}
 use Rattle.nimber_field.proofs.Ring.{Ring}
 use Rattle.nimber_field.proofs.Laws.{Tools, Laws, Factors}
 use Rattle.nimber_field.proofs.Pairs.{pair_tools, pair_laws}

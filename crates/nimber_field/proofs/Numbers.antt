@@ -1,16 +1,15 @@
 -- The numbers below the order of a level are a field. Assumes nothing.
-use mathlib.Core.Path.{◌≡◌, refl, sym, ap, ◌∙◌, subst}
+use mathlib.Core.Path.{◌≡◌, sym, ap, ◌∙◌, subst}
 use mathlib.Core.Logic.{◌⊎◌, inl, inr, ◌≢◌}
-use Prim.Native.Nat.{ℕ, zero, suc, ◌+◌, ◌*◌, ◌/◌, ◌%◌, ◌-◌, ◌^◌, ◌<◌, ◌≤◌}
-use native.Mathlib.Nat.{add-zero}
+use Prim.Native.Nat.{ℕ, ◌^◌, ◌<◌}
 use native.Mathlib.Omega.{arith}
 use lib.Bits.{bit_xor, xor_lt, xor_comm, xor_assoc, xor_zero_r, xor_self}
 use Rattle.nimber_field.specs.Tower.{Tower, ops}
 use Rattle.nimber_field.specs.Nimber.{order, code, decode, times, invert, ◌⊕◌}
 use Rattle.nimber_field.specs.Field.{Field}
-use Rattle.nimber_field.proofs.Laws.{Tools, Laws, cancel}
+use Rattle.nimber_field.proofs.Laws.{cancel}
 use Rattle.nimber_field.proofs.Levels.{tools, laws}
-use Rattle.nimber_field.proofs.Codes.{code_below, decode_code, code_decode, code_injective, code_add, code_nil, code_one}
+use Rattle.nimber_field.proofs.Codes.{code_below, decode_code, code_decode, code_add, code_nil, code_one}
 
 module _ (k : ℕ) where
   open ops k use {nil, one, add, mul, inv}

@@ -1,9 +1,8 @@
 -- The laws of a level hold at the next one, whose elements are its pairs. Assumes nothing.
-use mathlib.Core.Path.{◌≡◌, refl, sym, ap, ◌∙◌, subst}
+use mathlib.Core.Path.{◌≡◌, refl, sym, ap, ◌∙◌}
 use mathlib.Core.Bool.{Bool, true, false, true≢false}
 use mathlib.Core.Logic.{◌⊎◌, inl, inr, ◌≢◌}
 use Rattle.nimber_field.specs.Tower.{Ops, differ, pairs}
-use Rattle.nimber_field.proofs.Ring as rings
 use Rattle.nimber_field.proofs.Ring.{ring, pair_ring}
 use Rattle.nimber_field.proofs.Laws.{Tools, Laws, Factors, exchange, top_nil, cancel, divided}
 

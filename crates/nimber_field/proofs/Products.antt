@@ -1,13 +1,12 @@
 -- Laws of 32-bit nim products that games use. Assumes nothing.
-use mathlib.Core.Path.{◌≡◌, refl, sym, ap, ◌∙◌, subst}
+use mathlib.Core.Path.{◌≡◌, sym, ap, ◌∙◌}
 use mathlib.Core.Logic.{◌⊎◌, ◌≢◌}
 use Prim.Native.Nat.{ℕ, ◌^◌, ◌<◌}
 use native.Mathlib.Nat.{lt_trans}
 use native.Mathlib.Omega.{arith}
-use lib.Bits.{bit_xor, xor_assoc, xor_self, xor_zero_l, xor_zero_r, xor_lt}
+use lib.Bits.{xor_assoc, xor_self, xor_zero_l, xor_zero_r, xor_lt}
 use lib.Dec.{lit<}
 use Rattle.nimber_field.specs.Nimber.{◌⊕◌, ◌⊗◌, inverse_of}
-use Rattle.nimber_field.specs.Field.{Field}
 use Rattle.nimber_field.proofs.Conway.{nimber_field}
 use Rattle.nimber_field.proofs.Numbers.{times_below, times_invert, invert_below}
 

@@ -1,5 +1,5 @@
 -- Commutative rings in which x + x = 0, and the ring of their pairs. Assumes nothing.
-use mathlib.Core.Path.{◌≡◌, refl, sym, ap, ◌∙◌}
+use mathlib.Core.Path.{◌≡◌, sym, ap, ◌∙◌}
 use Rattle.nimber_field.specs.Tower.{Ops, pairs}
 
 -- a commutative ring in which every element is its own negative

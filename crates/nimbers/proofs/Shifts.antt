@@ -1,5 +1,5 @@
 -- What the shifts and masks of the code come to at a level. Assumes nothing.
-use Rattle.std.proofs.Common.{◌≡◌, ℕ, suc, ◌+◌, ◌-◌, ◌*◌, ◌/◌, ◌%◌, ◌^◌, ◌<◌, ◌≤◌, sym, ap, ◌∙◌, subst, add-one, arith, pow_pos}
+use Rattle.std.proofs.Common.{◌≡◌, ℕ, ◌+◌, ◌-◌, ◌*◌, ◌/◌, ◌%◌, ◌^◌, ◌<◌, ◌≤◌, sym, ap, ◌∙◌, subst, add-one, arith, pow_pos}
 use lib.Bits.{bit_and, bit_or, and_mask, or_shifted}
 use Rattle.std.proofs.lemmas.Nat.{one_shl, shl_whole, pow_below}
 use Rattle.nimber_field.specs.Nimber.{order}

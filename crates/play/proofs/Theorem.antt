@@ -1,20 +1,17 @@
 -- A position is lost exactly when its value is 0. Assumes nothing.
 use mathlib.Core.Path.{◌≡◌, refl, sym, ap, ◌∙◌, subst}
 use mathlib.Core.Bool.{Bool, true, false, cond}
-use mathlib.Core.Logic.{◌⊎◌, inl, inr, ◌≢◌}
-use Prim.Native.Nat.{ℕ, zero, suc, ◌+◌, ◌^◌, ◌<◌, ◌≤◌}
-use native.Mathlib.Decide.{dec_lt, ℕ_discrete}
+use mathlib.Core.Logic.{◌≢◌}
+use Prim.Native.Nat.{ℕ, zero, suc, ◌+◌, ◌^◌, ◌<◌}
+use native.Mathlib.Decide.{ℕ_discrete}
 use native.Mathlib.Nat.{two-pow-succ}
 use native.Mathlib.Omega.{arith}
-use lib.Bits.{xor_comm, xor_assoc, xor_self, xor_zero_l, xor_zero_r}
-use lib.Pow.{pow_pos}
-use borrow.Author.Tests.{clash}
-use Rattle.nimber_field.specs.Missing.{Missing}
+use lib.Bits.{xor_comm, xor_self, xor_zero_l}
 use Rattle.nimber_field.specs.Tower.{differ}
 use Rattle.nimber_field.specs.Nimber.{◌⊕◌}
 use Rattle.nimber_field.proofs.Products.{xor_twice, xor_equal}
-use Rattle.games.specs.Rules.{Rules, IsRest, Lawful, rest}
-use Rattle.play.specs.Play.{Coins, turned, after, Legal, Won, wins, Lost, loses, position_value, Decided, Decides}
+use Rattle.games.specs.Rules.{Rules, Lawful, rest}
+use Rattle.play.specs.Play.{Coins, after, Legal, Won, wins, Lost, loses, position_value, Decided}
 use Rattle.play.proofs.Turning.{on_board, value_after, Lowers, lowers}
 
 -- the heads read as binary digits

@@ -1,18 +1,17 @@
 -- What a move does to the value of a position, and that some head can bring the value to any smaller number. Assumes nothing.
 use mathlib.Core.Path.{◌≡◌, refl, sym, ap, ◌∙◌, subst}
 use mathlib.Core.Bool.{Bool, true, false, cond}
-use mathlib.Core.Logic.{◌⊎◌, inl, inr, ◌≢◌}
-use Prim.Native.Nat.{ℕ, zero, suc, ◌+◌, ◌*◌, ◌/◌, ◌%◌, ◌^◌, ◌<◌, ◌≤◌}
+use mathlib.Core.Logic.{◌⊎◌, inl, inr}
+use Prim.Native.Nat.{ℕ, zero, suc, ◌/◌, ◌%◌, ◌<◌}
 use native.Mathlib.Decide.{dec_lt, ℕ_discrete}
 use native.Mathlib.Omega.{arith}
 use lib.Arith.{bin_ind}
 use lib.Bits.{xor_comm, xor_assoc, xor_self, xor_zero_l, xor_zero_r, xor_shr, xor_mod}
 use Rattle.nimber_field.specs.Tower.{differ}
 use Rattle.nimber_field.specs.Nimber.{◌⊕◌}
-use Rattle.nimber_field.proofs.Products.{xor_twice}
 use Rattle.games.specs.Rules.{Rules, Lawful, nim_sum, sum_held, rest}
 use Rattle.games.specs.Laws.Sums.{sum_same, sum_whole}
-use Rattle.play.specs.Play.{Coins, turned, after, Legal, position_value}
+use Rattle.play.specs.Play.{Coins, turned, after, position_value}
 
 -- sums add term by term
 sum_add : (n : ℕ) (f g : ℕ → ℕ) → nim_sum n (λ d. f d ⊕ g d) ≡ nim_sum n f ⊕ nim_sum n g

@@ -1,7 +1,7 @@
 -- A record that is read lies within its file.
-use Rattle.std.proofs.Common.{◌≡◌, ℕ, ◌+◌, ◌≤◌, Bool, true, false, cond, List, length, take, drop, Some, None, Ok, Err, Result, sym, refl, ap, ◌∙◌, arith, length-drop, length-take, eqb-true}
+use Rattle.std.proofs.Common.{◌≡◌, ℕ, ◌+◌, ◌≤◌, Bool, true, false, cond, List, length, Some, Ok, Err, sym, refl, ap, ◌∙◌, arith, length-drop, length-take, eqb-true}
 use Rattle.std.proofs.lemmas.Bool.Decides.{nat_tests}
-use Rattle.records.specs.Bytes.{Framed, frame_at, cut_short, body_at, body_length_at, kind_at}
+use Rattle.records.specs.Bytes.{Framed, frame_at, cut_short, body_at}
 use Rattle.records.specs.Records.{of_kind, from_frame, record_at, kind_of, fits_kind, item_from, item_size}
 use Rattle.records.specs.declared.bytes.At.{At}
 use Rattle.records.specs.declared.bytes.ByteFault.{ByteFault}

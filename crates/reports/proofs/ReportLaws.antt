@@ -1,5 +1,5 @@
 -- Lines so far, and what they come to.
-use Rattle.std.proofs.Common.{◌≡◌, ℕ, zero, suc, ◌+◌, ◌-◌, ◌<◌, ◌≤◌, Bool, true, false, cond, List, [], ◌∷◌, ◌++◌, length, take, Some, None, Ok, Err, codes, Option, Result, sym, refl, ap, ◌∙◌, subst, append_assoc, append-nil, add-zero, add_assoc, arith, length-append}
+use Rattle.std.proofs.Common.{◌≡◌, ℕ, ◌+◌, ◌-◌, ◌<◌, ◌≤◌, Bool, true, false, cond, List, [], ◌∷◌, ◌++◌, length, take, Some, None, Ok, Err, codes, Option, Result, sym, refl, ap, ◌∙◌, subst, append_assoc, append-nil, add-zero, arith, length-append}
 use Rattle.games.specs.Rules.{Rules, Lawful, Replies}
 use Rattle.tables.specs.Coins.{coins}
 use Rattle.tables.specs.Calls.{refusal_number, reply_to}
@@ -20,7 +20,7 @@ use Rattle.reports.specs.Steps.{CallCarries, buffer_after, call_met, game_of, le
 use Rattle.tables.proofs.AdviceLaws.{promise}
 use Rattle.reports.proofs.StepLaws.{found_inside}
 use Rattle.reports.proofs.Writing.{front_fits, front_taken}
-use Rattle.reports.specs.Reports.{AdviceLine, AdviceLines, Closes, Finds, Reported, lines_of, reading_by, run_by, run_line}
+use Rattle.reports.specs.Reports.{AdviceLines, Closes, Finds, Reported, lines_of, reading_by, run_by, run_line}
 
 -- one record more
 pub reading_more : (r : Reading) (items : List Item) (item : Item)

@@ -1,5 +1,5 @@
 -- The text of a remark that was found is short enough for a line.
-use Rattle.std.proofs.Common.{◌≡◌, ℕ, ◌+◌, ◌<◌, ◌≤◌, Bool, true, false, cond, ltb, List, length, Some, None, Ok, Err, Option, Result, sym, refl, ap, ◌∙◌, subst, zero-le, arith, leb-false, leb-true}
+use Rattle.std.proofs.Common.{◌≡◌, ℕ, ◌+◌, ◌<◌, ◌≤◌, Bool, true, false, cond, List, length, Some, None, Ok, Err, Option, Result, sym, refl, ap, ◌∙◌, subst, zero-le, arith, leb-false, leb-true}
 use Rattle.games.specs.Rules.{Rules}
 use Rattle.play.specs.Play.{Coins}
 use Rattle.tables.specs.Calls.{Reply}

@@ -1,55 +1,20 @@
 -- Advice is right, and whoever follows it wins. Assumes nothing.
-use Rattle.std.proofs.Common.{◌≡◌, ℕ, zero, suc, ◌<◌, ◌≤◌, Bool, true, false, cond, ◌&&◌, ◌||◌, eqb, ltb, ◌≢◌, ◌⊎◌, List, [], ◌∷◌, ◌++◌, is_ok, Some, None, Ok, Err, Option, sym, refl, ap, ◌∙◌, subst, inl, inr, arith, ltb-true, lt-ltb, eq-eqb, ne_eqb, eqb-true}
+use Rattle.std.proofs.Common.{◌≡◌, ℕ, zero, suc, ◌<◌, Bool, true, false, cond, ◌&&◌, ◌||◌, ltb, ◌≢◌, ◌⊎◌, [], ◌∷◌, ◌++◌, is_ok, Some, None, Ok, Err, Option, sym, refl, ap, ◌∙◌, subst, inl, inr, arith, ltb-true, lt-ltb, eq-eqb, ne_eqb}
 use native.Mathlib.Decide.{ℕ_discrete}
 use borrow.Author.Tests.{both_ways, clash}
 use Rattle.std.specs.Option.{option_map}
 use Rattle.nimber_field.specs.Nimber.{◌⊕◌}
-use Rattle.nimber_field.specs.Tower.{differ}
-use Rattle.games.specs.Rules.{Rules, IsRest, Lawful, FreeReply, Replies, rest}
+use Rattle.games.specs.Rules.{Rules, Lawful, FreeReply, Replies}
 use Rattle.games.specs.Rows.{first}
 use Rattle.games.specs.TakeValues.{any}
 use Rattle.games.specs.Laws.RowLaws.{First, first_exists}
 use Rattle.piles.specs.Laws.ProductLaws.{tartan_theorem}
-use Rattle.play.specs.Play.{Coins, turned, after, Legal, Won, wins, Lost, position_value}
+use Rattle.play.specs.Play.{Coins, after, Legal, wins, position_value}
 use Rattle.play.proofs.Turning.{on_board}
-use Rattle.play.proofs.Theorem.{Winner, winner, move_to_zero, leaves_zero, lost_of, won_of, not_both}
-use Rattle.tables.specs.Calls.{
-  Reply,
-  can_move,
-  play_state,
-  falls,
-  advised_cell,
-  advised_move,
-  move_at,
-  advice,
-  reply_to,
-  allowed,
-  allowed_reply,
-  touched,
-  side_after,
-  other_side,
-}
-use Rattle.tables.specs.Runs.{
-  Entry,
-  Run,
-  odd_many,
-  some_entry,
-  begins,
-  passes,
-  coin,
-  state_of,
-  side_of,
-  Told,
-  RightAdvice,
-  Advised,
-  AdviceIsRight,
-  AsAdvised,
-  FollowsAdvice,
-  AdviceWins,
-  Promise,
-}
+use Rattle.play.proofs.Theorem.{Winner, winner, move_to_zero, leaves_zero, lost_of, not_both}
+use Rattle.tables.specs.Calls.{Reply, can_move, falls, advised_cell, advised_move, move_at, advice, reply_to, allowed_reply, touched, side_after, other_side}
+use Rattle.tables.specs.Runs.{Entry, Run, some_entry, begins, coin, state_of, side_of, Told, RightAdvice, AdviceIsRight, AsAdvised, FollowsAdvice, AdviceWins, Promise}
 use Rattle.tables.specs.declared.calls.Move.{Move}
-use Rattle.tables.specs.declared.calls.State.{State}
 use Rattle.tables.specs.declared.calls.State.TheVariants.{Setting, Playing, Over}
 use Rattle.tables.specs.declared.calls.Side.{Side}
 use Rattle.tables.specs.declared.calls.Side.TheVariants.{First as FirstSide, Second as SecondSide}
@@ -58,7 +23,7 @@ use Rattle.tables.specs.declared.calls.Call.TheVariants.{Lay, Begin, Turn, Weigh
 use Rattle.tables.specs.declared.calls.Answer.{Answer}
 use Rattle.tables.specs.declared.calls.Answer.TheVariants.{Advice}
 use Rattle.tables.specs.declared.calls.Refusal.TheVariants.{NoCells}
-use Rattle.tables.proofs.Turned.{any_at, differ_false}
+use Rattle.tables.proofs.Turned.{any_at}
 use Rattle.tables.proofs.RunLaws.{Accepted, accepted, entry, coin_next, untouched, setting_unbegun, playing_begun, side_next}
 
 module _ (G : Rules) (P : Lawful G) (R : Replies G) where

@@ -1,5 +1,5 @@
 -- Coins as bits of words. Assumes nothing.
-use Rattle.std.proofs.Common.{◌≡◌, ℕ, zero, suc, ◌+◌, ◌-◌, ◌*◌, ◌/◌, ◌%◌, ◌^◌, ◌<◌, ◌≤◌, Bool, true, false, cond, ◌&&◌, eqb, ltb, ◌≢◌, List, length, get_or, set, replicate, sym, refl, ap, ◌∙◌, subst, arith, get_or-set_other, get_or-set_same, pow_pos, pow-add, lt-ltb, eq-eqb, ne_eqb}
+use Rattle.std.proofs.Common.{◌≡◌, ℕ, zero, suc, ◌+◌, ◌-◌, ◌*◌, ◌/◌, ◌%◌, ◌^◌, ◌<◌, ◌≤◌, Bool, true, false, eqb, ◌≢◌, List, length, get_or, set, replicate, sym, refl, ap, ◌∙◌, arith, get_or-set_other, get_or-set_same, pow_pos, pow-add, eq-eqb, ne_eqb}
 use native.Mathlib.Decide.{dec_lt, ℕ_discrete}
 use native.Mathlib.Nat.{div-eq_of_lt, div_self, zero-div}
 use lib.Bits.{bit_xor, xor_shr, xor_mod, xor_zero_r}
@@ -7,9 +7,6 @@ use lib.ListN.{get_or-eq_default}
 use lib.Pow.{pow-lt, shl-shr}
 use Rattle.std.proofs.lemmas.Bool.Decides.{nat_tests}
 use Rattle.nimber_field.specs.Tower.{differ}
-use Rattle.play.specs.Play.{Coins, turned}
-use Rattle.tables.specs.Coins.{coins, only}
-use Rattle.tables.specs.declared.position.Position.{Position}
 
 -- bit j of w
 abbrev pub bit : ℕ → ℕ → ℕ

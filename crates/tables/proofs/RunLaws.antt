@@ -1,5 +1,5 @@
 -- Each call carries the laws of a run on. Assumes nothing.
-use Rattle.std.proofs.Common.{◌≡◌, ℕ, ◌+◌, ◌<◌, Bool, true, false, cond, ◌&&◌, ◌||◌, ltb, ◌≢◌, List, [], ◌∷◌, ◌++◌, length, get_or, take, is_ok, Some, None, Ok, Err, Option, sym, refl, ap, ◌∙◌, subst, arith, length-take, ltb-true}
+use Rattle.std.proofs.Common.{◌≡◌, ℕ, ◌+◌, ◌<◌, Bool, true, false, cond, ◌||◌, ltb, List, [], ◌∷◌, ◌++◌, length, get_or, take, Some, None, Ok, Err, Option, sym, refl, ap, ◌∙◌, subst, arith, length-take, ltb-true}
 use mathlib.Core.Path.{fun_ext}
 use Rattle.std.proofs.lemmas.List.{take_more}
 use Rattle.nimber_field.specs.Tower.{differ}
@@ -23,27 +23,10 @@ use Rattle.tables.specs.Calls.{
   other_side,
   Follows,
 }
-use Rattle.tables.specs.Runs.{
-  Entry,
-  Run,
-  run_on,
-  run_of,
-  odd_many,
-  some_entry,
-  turned_coin,
-  begins,
-  passes,
-  coin,
-  state_of,
-  side_of,
-  Stands,
-  Carries,
-  Told,
-}
+use Rattle.tables.specs.Runs.{Entry, Run, run_on, run_of, odd_many, some_entry, begins, passes, coin, state_of, side_of, Stands, Carries, Told}
 use Rattle.tables.specs.declared.calls.Move.{Move}
 use Rattle.tables.specs.declared.calls.State.{State}
 use Rattle.tables.specs.declared.calls.State.TheVariants.{Setting, Playing, Over}
-use Rattle.tables.specs.declared.calls.Side.{Side}
 use Rattle.tables.specs.declared.calls.Side.TheVariants.{First, Second}
 use Rattle.tables.specs.declared.calls.Call.{Call}
 use Rattle.tables.specs.declared.calls.Call.TheVariants.{Lay, Begin, Turn, Weigh, Value, Advise}

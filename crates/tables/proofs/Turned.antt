@@ -1,11 +1,11 @@
 -- Coins turned one by one, and tests over cells. Assumes nothing.
-use Rattle.std.proofs.Common.{◌≡◌, ℕ, zero, suc, ◌+◌, ◌<◌, ◌≤◌, Bool, true, false, ◌&&◌, ◌||◌, eqb, ltb, ◌≢◌, sym, refl, ap, ◌∙◌, add-one, arith, le-ltb, lt-ltb, eq-eqb, ne_eqb}
+use Rattle.std.proofs.Common.{◌≡◌, ℕ, zero, suc, ◌+◌, ◌<◌, Bool, true, false, ◌&&◌, ◌||◌, eqb, ltb, sym, refl, ap, ◌∙◌, add-one, arith, le-ltb, lt-ltb, eq-eqb, ne_eqb}
 use mathlib.Core.Path.{fun_ext}
 use native.Mathlib.Decide.{dec_lt, ℕ_discrete}
 use Rattle.nimber_field.specs.Tower.{differ}
 use Rattle.games.specs.TakeValues.{any}
 use Rattle.play.specs.Play.{Coins, turned}
-use Rattle.tables.specs.Coins.{only, one_held, held_below}
+use Rattle.tables.specs.Coins.{one_held, held_below}
 
 pub differ_false : (b : Bool) → differ b false ≡ b
 differ_false true = refl

@@ -1,5 +1,5 @@
 -- Runs: the calls on one new table with their replies, the latest first, and the laws that hold over them. Assumes nothing.
-use Rattle.std.specs.Prelude.{◌≡◌, ℕ, Bool, true, false, cond, ◌&&◌, ◌||◌, ◌≢◌, List, [], ◌∷◌, ◌++◌, is_ok, Some, None, Ok, Err, Option}
+use Rattle.std.specs.Prelude.{◌≡◌, ℕ, Bool, true, false, cond, ◌&&◌, ◌||◌, ◌≢◌, List, [], ◌∷◌, ◌++◌, is_ok, Some, None, Ok, Option}
 use Rattle.nimber_field.specs.Tower.{differ}
 use Rattle.games.specs.Rules.{Rules}
 use Rattle.piles.specs.Layers.{TartanTheorem}

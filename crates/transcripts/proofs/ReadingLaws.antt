@@ -1,13 +1,13 @@
 -- A fault is met again, and the first record is a head.
-use Rattle.std.proofs.Common.{◌≡◌, ℕ, zero, suc, Bool, true, false, cond, List, Some, None, Ok, Err, Option, Result, sym, refl, ap, ◌∙◌, arith}
+use Rattle.std.proofs.Common.{◌≡◌, ℕ, zero, suc, Bool, true, false, cond, List, Some, None, Ok, Err, Option, Result, sym, ap, ◌∙◌, arith}
 use Rattle.records.specs.Bytes.{too_long}
-use Rattle.records.specs.Records.{Item, head, lay, begin, turn, advise, remark, end, has_bad_text, record_at}
+use Rattle.records.specs.Records.{Item, head, lay, begin, turn, advise, remark, end, record_at}
 use Rattle.records.specs.declared.bytes.At.{At}
 use Rattle.records.specs.declared.record.Head.{Head}
 use Rattle.records.specs.declared.record.RecordFault.{RecordFault}
 use Rattle.transcripts.specs.Readings.{Reading, Stuck, accepted, as_first, at_end, at_of, found, head_or, later, lacks_pile, reading_after, start}
 use Rattle.transcripts.specs.declared.fault.Fault.{Fault}
-use Rattle.transcripts.specs.declared.fault.Fault.TheVariants.{Records, NoPile, NoEnd}
+use Rattle.transcripts.specs.declared.fault.Fault.TheVariants.{NoPile}
 
 -- a fault leaves the reading where it is, so it is met again
 pub stuck : (r : Reading) (e : Fault) → found r ≡ Err e → Stuck r e

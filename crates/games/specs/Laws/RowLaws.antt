@@ -5,7 +5,7 @@ use Rattle.std.proofs.Common.{sym, ap, ◌∙◌, arith, lit<}
 use Rattle.std.proofs.Math.Decide.{dec_lt}
 use borrow.Author.Tests.{lt-ltb, le-ltb, ltb-true, ltb-false, eq-eqb, ne_eqb, eqb-true, eqb-false, both_ways, clash}
 use Rattle.nimber_field.specs.Missing.{Missing}
-use Rattle.games.specs.Rules.{Rules, nim_sum, sum_held, rest, IsRest, Lawful, LowestReply, LowestReplies, FreeReply, Replies}
+use Rattle.games.specs.Rules.{Rules, sum_held, rest, IsRest, Lawful, LowestReply, LowestReplies, FreeReply, Replies}
 use Rattle.games.specs.Rows.{on, listed, first, row_game}
 use Rattle.games.specs.Laws.Sums.{sum_same}
 

@@ -1,4 +1,4 @@
-use Rattle.std.proofs.Common.{◌≡◌, ℕ, ◌-◌, ◌^◌, ◌<◌, ◌≤◌, sym, ◌∙◌, subst, arith, pow_mono}
+use Rattle.std.proofs.Common.{◌≡◌, ◌-◌, ◌<◌, ◌≤◌, sym, ◌∙◌, subst, arith, pow_mono}
 use Rattle.nimber_field.specs.Nimber.{order, times}
 use Rattle.nimber_field.proofs.Halves.{times_by, times_low}
 use Rattle.nimber_field.proofs.Numbers.{times_below, sum_below}

@@ -2,7 +2,7 @@
 use Rattle.std.specs.Prelude.{◌≡◌, ℕ, zero, suc, ◌+◌, ◌*◌, ◌/◌, ◌%◌, ◌<◌, Bool, true, false, cond, ◌&&◌, refl}
 use Rattle.std.proofs.Common.{sym, ap, ◌∙◌, add-zero, add-suc, zero-mul, suc-mul, lit<}
 use Rattle.std.proofs.Math.Arith.{digits_div, digits_mod}
-use Rattle.std.specs.Int.Bits.{bit_xor, xor_assoc, xor_zero_r}
+use Rattle.std.specs.Int.Bits.{xor_assoc, xor_zero_r}
 use Rattle.nimber_field.specs.Missing.{Missing}
 use Rattle.nimber_field.specs.Nimber.{◌⊕◌, ◌⊗◌}
 use Rattle.nimber_field.proofs.Products.{Small, product_zero, zero_product, distributes, distributes_left}

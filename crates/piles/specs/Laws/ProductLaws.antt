@@ -1,7 +1,7 @@
 -- A product of lawful games is lawful, and its values are the nim products of theirs: the Tartan theorem. Assumes nothing.
-use Rattle.std.specs.Prelude.{◌≡◌, ℕ, zero, suc, ◌+◌, ◌-◌, ◌*◌, ◌/◌, ◌%◌, ◌^◌, ◌<◌, ◌≤◌, Bool, true, false, cond, ◌&&◌, ltb, ◌≢◌, ◌⊎◌, Some, None, Option, nat_le, nat_lt, refl}
+use Rattle.std.specs.Prelude.{◌≡◌, ℕ, zero, suc, ◌+◌, ◌*◌, ◌/◌, ◌%◌, ◌^◌, ◌<◌, ◌≤◌, Bool, true, false, cond, ◌&&◌, ltb, ◌⊎◌, Some, None, Option, nat_le, nat_lt, refl}
 use Rattle.std.proofs.Math.Path.{sym, ap}
-use Rattle.std.proofs.Common.{◌∙◌, subst, inl, inr, mod-lt, div-lt_iff_lt-mul, le-div_iff_mul-le, mul-le-mul_left, mul-zero, zero-mul, lt_trans, arith, lit<}
+use Rattle.std.proofs.Common.{◌∙◌, subst, inl, inr, mod-lt, div-lt_iff_lt-mul, le-div_iff_mul-le, mul-zero, zero-mul, lt_trans, arith}
 use Rattle.std.proofs.Math.Decide.{dec_lt}
 use Rattle.std.proofs.Math.Nat.{div-add-mod', mul-le-mul_right}
 use borrow.Author.Tests.{lt-ltb, le-ltb, ltb-true, ltb-false, leb-true, clash}
@@ -9,7 +9,7 @@ use Rattle.std.proofs.Math.Arith.{digits_lt, digits_div, digits_mod}
 use Rattle.std.specs.Int.Bits.{xor_self}
 use Rattle.std.proofs.lemmas.Nat.{mul-le, xor_comm}
 use Rattle.nimber_field.specs.Missing.{Missing}
-use Rattle.nimber_field.specs.Nimber.{◌⊕◌, ◌⊗◌, Excluded, Met}
+use Rattle.nimber_field.specs.Nimber.{◌⊕◌, ◌⊗◌, Met}
 use Rattle.nimber_field.proofs.Conway.{conway, all_met}
 use Rattle.nimber_field.proofs.Products.{
   Small,
@@ -23,10 +23,10 @@ use Rattle.nimber_field.proofs.Products.{
   excluded_is,
   partner_is,
 }
-use Rattle.games.specs.Rules.{Rules, nim_sum, sum_held, rest, IsRest, Lawful, FreeReply, Replies}
+use Rattle.games.specs.Rules.{Rules, sum_held, rest, IsRest, Lawful, FreeReply, Replies}
 use Rattle.games.specs.Laws.Sums.{sum_same, sum_whole}
 use Rattle.games.specs.Laws.RowLaws.{First, first_exists}
-use Rattle.piles.specs.Layers.{limited, partner, smallest_met, paired, met_answer, crossed, multiplies, product, Tartan, TartanTheorem}
+use Rattle.piles.specs.Layers.{limited, partner, smallest_met, paired, met_answer, crossed, multiplies, product, TartanTheorem}
 use Rattle.piles.specs.Laws.Blocks.{sum_crossed, held_sum_small}
 use Rattle.piles.specs.Laws.MixLaws.{limited_lawful, limited_replies}
 

@@ -1,5 +1,4 @@
 use mathlib.Core.Bool.{not}
-use mathlib.Core.Path.{◌≡◌}
 use borrow.Author.Tests.{not-true, not-false, eqb-true, eqb-false}
 use lib.Dec.{eqb}
 use Rattle.play.proofs.Theorem.{decided}

@@ -1,4 +1,4 @@
-use Rattle.std.proofs.Common.{◌≡◌, arith}
+use Rattle.std.proofs.Common.{arith}
 use Rattle.nimber_field.proofs.Products.{xor_equal}
 use Rattle.piles.proofs.product.counterpart.Goals as goal
 

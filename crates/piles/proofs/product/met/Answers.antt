@@ -1,6 +1,6 @@
-use Rattle.std.proofs.Common.{◌≡◌, ◌<◌, ltb, sym, ap, ◌∙◌, arith, below_more, le-ltb, lt-ltb}
+use Rattle.std.proofs.Common.{◌≡◌, ltb, sym, ap, ◌∙◌, arith, below_more, le-ltb, lt-ltb}
 use borrow.Author.Tests.{both_ways}
-use Rattle.nimber_field.specs.Nimber.{◌⊕◌, ◌⊗◌, inverse_of, Met}
+use Rattle.nimber_field.specs.Nimber.{◌⊕◌, ◌⊗◌, inverse_of}
 use Rattle.nimber_field.proofs.Conway.{all_met}
 use Rattle.games.specs.Laws.RowLaws.{first_is}
 use Rattle.piles.specs.Layers.{partner, smallest_met}

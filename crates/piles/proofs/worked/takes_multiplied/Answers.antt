@@ -4,7 +4,7 @@ use Rattle.games.specs.Rules.{Rules}
 use Rattle.games.specs.Rows.{on, row_game}
 use Rattle.games.specs.Take.{taken}
 use Rattle.games.specs.TakeValues.{amounts_up_to, take_value}
-use Rattle.piles.specs.Worked.{power, TakesMultiplied}
+use Rattle.piles.specs.Worked.{power}
 use Rattle.piles.proofs.worked.takes_multiplied.Goals as goal
 
 -- Take on one cell with all amounts, by how many they are

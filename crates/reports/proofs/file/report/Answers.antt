@@ -1,12 +1,12 @@
-use Rattle.std.proofs.Common.{◌≡◌, ◌+◌, ◌≤◌, [], ◌∷◌, ◌++◌, length, None, Ok, Err, vec_items, sym, refl, ap, ◌∙◌, subst, append-nil, arith, le-ltb}
+use Rattle.std.proofs.Common.{◌≡◌, ◌+◌, [], ◌∷◌, ◌++◌, length, None, Ok, Err, vec_items, sym, refl, ap, ◌∙◌, subst, append-nil, arith, le-ltb}
 use Rattle.std.proofs.lemmas.Result.{IfOk-weaker}
 use Rattle.games.specs.Rules.{Lawful, Replies}
 use Rattle.piles.specs.Numbered.{pile_of}
 use Rattle.piles.specs.Laws.PileLaws.{pile_lawful, pile_replies}
 use Rattle.tables.specs.Runs.{Stands}
 use Rattle.transcripts.specs.Readings.{found, reading, start}
-use Rattle.reports.specs.Reports.{Closes, Reported, fault_line}
-use Rattle.reports.specs.Steps.{game_of, length_given, line_for, met}
+use Rattle.reports.specs.Reports.{Closes, fault_line}
+use Rattle.reports.specs.Steps.{game_of, line_for, met}
 use Rattle.reports.proofs.ReportLaws.{advance, given_fits, less_left, none_hit, reported_so, started}
 use Rattle.reports.proofs.StepLaws.{fault_hit, found_none, met_found}
 use Rattle.reports.proofs.file.report.Goals as goal

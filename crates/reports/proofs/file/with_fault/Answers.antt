@@ -1,4 +1,4 @@
-use Rattle.std.proofs.Common.{◌≡◌, ◌++◌, vec_items, ap, ◌∙◌}
+use Rattle.std.proofs.Common.{◌++◌, vec_items, ap, ◌∙◌}
 use Rattle.reports.proofs.Writing.{front_fits, front_taken}
 use Rattle.reports.proofs.file.with_fault.Goals as goal
 

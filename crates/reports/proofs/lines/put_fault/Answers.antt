@@ -1,5 +1,5 @@
 use Rattle.std.proofs.Common.{◌≡◌, ℕ, List, [], ◌∷◌, ◌++◌, length, codes, decimal, ap, ◌∙◌, append_assoc, arith}
-use Rattle.reports.specs.Lines.{bad_line, in_front, opening}
+use Rattle.reports.specs.Lines.{in_front, opening}
 use Rattle.reports.proofs.Writing.{close_line, more_line, short_64}
 use Rattle.reports.proofs.lines.put_fault.Goals as goal
 

@@ -1,4 +1,4 @@
-use Rattle.std.proofs.Common.{◌≡◌, ◌+◌, ◌∷◌, ◌++◌, length, get_or, take, decimal, sym, ap, ◌∙◌, arith, length-append, take_all}
+use Rattle.std.proofs.Common.{◌+◌, ◌∷◌, length, get_or, take, decimal, sym, ap, ◌∙◌, arith, length-append, take_all}
 use Rattle.reports.specs.Lines.{fields, overwritten}
 use Rattle.reports.proofs.Writing.{fields_more, over_none, then_over}
 use Rattle.reports.proofs.lines.put_fields.Goals as goal

@@ -1,4 +1,4 @@
-use Rattle.std.proofs.Common.{◌≡◌, [], ◌∷◌, ◌++◌, length, ap, ◌∙◌, append_assoc, arith}
+use Rattle.std.proofs.Common.{[], ◌∷◌, ◌++◌, length, ap, ◌∙◌, append_assoc, arith}
 use Rattle.reports.specs.Lines.{in_front, opening}
 use Rattle.reports.proofs.Writing.{close_line, more_line}
 use Rattle.reports.proofs.lines.put_line.Goals as goal

@@ -1,4 +1,4 @@
-use Rattle.std.proofs.Common.{◌≡◌, ◌++◌, length, decimal, sym, ap, ◌∙◌, append_assoc, zero-add, arith}
+use Rattle.std.proofs.Common.{◌++◌, length, decimal, ap, ◌∙◌, append_assoc, zero-add, arith}
 use Rattle.reports.specs.Lines.{fields, overwritten}
 use Rattle.reports.proofs.Writing.{more_line, short_64}
 use Rattle.reports.proofs.lines.put_opening.Goals as goal

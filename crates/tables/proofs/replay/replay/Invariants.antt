@@ -1,4 +1,4 @@
-use Rattle.std.proofs.Common.{◌≡◌, length, take, vec_items, vec_len}
+use Rattle.std.proofs.Common.{◌≡◌, take, vec_items, vec_len}
 use Rattle.tables.specs.Runs.{run_of, Stands, Told}
 use Rattle.tables.proofs.replay.replay.Given as goal
 

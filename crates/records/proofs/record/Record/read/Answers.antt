@@ -1,4 +1,4 @@
-use Rattle.std.proofs.Common.{◌≡◌, ◌+◌, ◌≤◌, length, Ok, sym, ap, ◌∙◌, subst}
+use Rattle.std.proofs.Common.{◌+◌, ◌≤◌, length, Ok, sym, ap, ◌∙◌, subst}
 use Rattle.records.specs.Bytes.{framed}
 use Rattle.records.specs.Records.{item_size}
 use Rattle.records.proofs.Reading.{read_so}

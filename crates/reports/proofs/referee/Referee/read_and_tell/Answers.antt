@@ -1,10 +1,10 @@
-use Rattle.std.proofs.Common.{◌≡◌, ◌+◌, ◌≤◌, length, Some, Ok, sym, ap, ◌∙◌, subst, ltb-false}
+use Rattle.std.proofs.Common.{◌≡◌, ◌+◌, length, Some, Ok, sym, ap, ◌∙◌, subst, ltb-false}
 use Rattle.piles.specs.Numbered.{pile_of}
 use Rattle.records.specs.Records.{item_of}
 use Rattle.tables.specs.Coins.{coins}
 use Rattle.transcripts.specs.Readings.{as_found, found, reading, reading_after}
 use Rattle.reports.specs.Lines.{in_front}
-use Rattle.reports.specs.Outcomes.{line_of, text_length, told_of}
+use Rattle.reports.specs.Outcomes.{line_of, told_of}
 use Rattle.reports.specs.Steps.{CallCarries, CallLeaves, buffer_after, call_met, length_given, line_for, met, reply_for}
 use Rattle.reports.proofs.StepLaws.{met_found, step_short}
 use Rattle.reports.proofs.referee.Referee.read_and_tell.Goals as goal

@@ -1,4 +1,4 @@
-use Rattle.std.proofs.Common.{ℕ, ◌&&◌, ltb, sym, refl, ap, ◌∙◌, arith}
+use Rattle.std.proofs.Common.{◌&&◌, ltb, sym, refl, ap, ◌∙◌, arith}
 use Rattle.games.specs.TakeValues.{any}
 use Rattle.tables.specs.Coins.{coins}
 use Rattle.tables.proofs.Turned.{any_more, any_at}

@@ -1,4 +1,4 @@
-use Rattle.std.proofs.Common.{◌≡◌, ℕ, false, ◌&&◌, ltb}
+use Rattle.std.proofs.Common.{◌≡◌, false, ◌&&◌, ltb}
 use Rattle.games.specs.TakeValues.{any}
 use Rattle.tables.specs.Coins.{coins}
 use Rattle.tables.proofs.position.Position.can_move.Given as goal

@@ -1,4 +1,4 @@
-use Rattle.std.proofs.Common.{◌≡◌, ◌/◌, ◌%◌, ◌^◌, ◌<◌, true, ◌&&◌, eqb, length, get_or, set, sym, ap, ◌∙◌, arith, rules, lt-ltb}
+use Rattle.std.proofs.Common.{◌/◌, ◌%◌, ◌<◌, ◌&&◌, eqb, length, get_or, set, sym, ap, ◌∙◌, arith, rules, lt-ltb}
 use mathlib.Core.Path.{fun_ext}
 use lib.Bits.{bit_xor}
 use Rattle.std.proofs.lemmas.Nat.{one_shl}

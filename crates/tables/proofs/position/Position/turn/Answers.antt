@@ -1,4 +1,4 @@
-use Rattle.std.proofs.Common.{◌≡◌, ℕ, ◌<◌, true, sym, ap, ◌∙◌, arith}
+use Rattle.std.proofs.Common.{◌≡◌, ℕ, ◌<◌, true, ap, ◌∙◌, arith}
 use Rattle.play.specs.Play.{turned}
 use Rattle.play.proofs.Turning.{on_board}
 use Rattle.tables.specs.Coins.{coins, one_held}

@@ -1,6 +1,5 @@
-use Rattle.std.proofs.Common.{◌≡◌, true, ◌&&◌, sym, ap, ◌∙◌, lt-ltb}
+use Rattle.std.proofs.Common.{◌≡◌, true, ◌&&◌, ap, ◌∙◌, lt-ltb}
 use borrow.Author.Tests.{both_ways}
-use Rattle.nimber_field.specs.Nimber.{◌⊕◌}
 use Rattle.play.proofs.Theorem.{winner}
 use Rattle.tables.specs.Calls.{falls}
 use Rattle.tables.specs.Coins.{coins}
