@@ -1,6 +1,6 @@
 // Checks `nimbers` against products that are found without it and against the laws of a field, and
-// `games` and `piles` against values that are found from their moves alone, `tables` against the
-// rules of play, and `reports` against a plain reading of files.
+// `games` and `piles` against values that are found from their moves alone, and `tables` against the
+// rules of play.
 #![tactic(auto)]
 
 mod fermat;
@@ -48,10 +48,6 @@ fn try_tables(rt: &HostRuntime) -> anyhow::Result<bool> {
     print_sections(rt, &audit_play::sections(rt.alloc())?)
 }
 
-fn try_transcripts(rt: &HostRuntime) -> anyhow::Result<bool> {
-    print_sections(rt, &audit_files::sections(rt.alloc())?)
-}
-
 fn print_sections(rt: &HostRuntime, sections: &[Section]) -> anyhow::Result<bool> {
     let mut sound = true;
     for section in sections {
@@ -67,8 +63,7 @@ fn run(rt: &HostRuntime) -> anyhow::Result<()> {
     let games = try_games(rt)?;
     let large_piles = try_large_piles(rt, &rows)?;
     let tables = try_tables(rt)?;
-    let transcripts = try_transcripts(rt)?;
-    if nimbers && games && large_piles && tables && transcripts {
+    if nimbers && games && large_piles && tables {
         Ok(())
     } else {
         Err(anyhow!("some did not agree"))

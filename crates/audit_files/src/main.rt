@@ -1,4 +1,4 @@
-// Checks `reports` against a plain reading of its own.
+// Checks `reports` against a plain reading of its own, and prints what was tried.
 #![tactic(auto)]
 
 mod damage;
@@ -10,11 +10,12 @@ mod steps;
 mod whole;
 mod writing;
 
+use anyhow::anyhow;
 use std::alloc::{AllocError, Global};
 use tallies::{Section, Tally};
 
 // All that is tried, with its counts.
-pub fn sections(heap: Global) -> Result<Vec<Section>, AllocError> {
+fn sections(heap: Global) -> Result<Vec<Section>, AllocError> {
     let sections = [
         known::files(heap)?,
         whole::files(heap)?,
@@ -33,4 +34,17 @@ fn compare(heap: Global, tally: &mut Tally, file: &[u8]) -> Result<(), AllocErro
     let stepped = steps::lines(heap, file)?;
     tally.count(told == expected && stepped == expected);
     Ok(())
+}
+
+fn main(rt: HostRuntime) -> anyhow::Result<()> {
+    let mut sound = true;
+    for section in sections(rt.alloc())? {
+        println!(rt; "{section}")?;
+        sound = sound && section.tally.all_agreed();
+    }
+    if sound {
+        Ok(())
+    } else {
+        Err(anyhow!("some did not agree"))
+    }
 }
