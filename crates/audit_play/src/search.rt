@@ -10,7 +10,7 @@ use tallies::{Section, Tally};
 pub type Mask = u32;
 
 // A move, with the coins that it turns.
-#[derive(Clone, Copy)]
+#[derive(Clone, Copy, Debug, PartialEq, Eq)]
 pub struct Turn {
     pub place: Move,
     coins: Mask,

@@ -6,7 +6,7 @@ ghost use Rattle.nimber_field.specs.Field.{Field};
 ghost use Rattle.nimber_field.specs.Nimber.{Conway, Only, AllMet, ◌⊕◌, ◌⊗◌};
 
 // The two constants of the field.
-#[derive(Clone, Copy)]
+#[derive(Clone, Copy, Debug, PartialEq, Eq)]
 pub struct Units {
     pub zero: u32,
     pub one: u32,

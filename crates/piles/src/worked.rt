@@ -1,7 +1,7 @@
 // Worked sums: products, inverses, values and boards as the books have them.
 ghost use Rattle.piles.specs.Worked.{all_claims, AllHold, TakesMultiplied};
 
-#[derive(Clone, Copy)]
+#[derive(Clone, Copy, Debug, PartialEq, Eq)]
 pub enum WorkedSum {
     // The nim product of a and b.
     Product {
@@ -88,7 +88,7 @@ pub fn worked_sums() -> [WorkedSum; 13]
 }
 
 // How many cells a game has, and its ceiling.
-#[derive(Clone, Copy)]
+#[derive(Clone, Copy, Debug, PartialEq, Eq)]
 pub struct Board {
     pub cells: u32,
     pub ceiling: u32,

@@ -3,13 +3,13 @@ ghost use Rattle.std.specs.Prelude.{◌≡◌, ◌+◌, ◌≤◌, length};
 ghost use Rattle.records.specs.Bytes.{as_framed, byte_fault_number, byte_fault_at, frame_at, four_at, two_at, size_check};
 
 // Where a record stands: its number, from 1, and the place of its first byte, from 0.
-#[derive(Clone, Copy)]
+#[derive(Clone, Copy, Debug, PartialEq, Eq)]
 pub struct At {
     pub number: usize,
     pub place: usize,
 }
 
-#[derive(Clone, Copy)]
+#[derive(Clone, Copy, Debug, PartialEq, Eq)]
 pub enum ByteFault {
     // Fewer bytes are left than the record has.
     CutShort(At),
@@ -39,7 +39,7 @@ impl ByteFault {
 }
 
 // A record as bytes: the number of its kind, and its body.
-#[derive(Clone, Copy)]
+#[derive(Clone, Copy, Debug, PartialEq, Eq)]
 pub struct Frame<'a> {
     pub kind: u32,
     pub body: &'a [u8],

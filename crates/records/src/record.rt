@@ -9,7 +9,7 @@ use crate::bytes::{At, ByteFault, Frame, check_size, four, frame_at, two};
 use piles::pile::Pile;
 use tables::calls::{Call, Move};
 
-#[derive(Clone, Copy)]
+#[derive(Clone, Copy, Debug, PartialEq, Eq)]
 pub enum RecordFault {
     // A fault of the bytes below.
     Bytes(ByteFault),
@@ -61,7 +61,7 @@ pub fn check_file(file: &[u8], at: At) -> Result<(), RecordFault>
     Ok(())
 }
 
-#[derive(Clone, Copy)]
+#[derive(Clone, Copy, Debug, PartialEq, Eq)]
 pub enum Kind {
     Head,
     Lay,
@@ -118,7 +118,7 @@ impl Kind {
 }
 
 // Which pile is played, with its two widths and its set of amounts.
-#[derive(Clone, Copy)]
+#[derive(Clone, Copy, Debug, PartialEq, Eq)]
 pub struct Head {
     pub pile: u32,
     pub w: u32,
@@ -136,7 +136,7 @@ impl Head {
 }
 
 // A record; a remark is a part of the transcript.
-#[derive(Clone, Copy)]
+#[derive(Clone, Copy, Debug, PartialEq, Eq)]
 pub enum Record<'a> {
     Head(Head),
     Lay(u32),

@@ -6,7 +6,7 @@ ghost use Rattle.reports.specs.Outcomes.{line_of, over_mark as mark_of, text_len
 use crate::lines::put_line;
 use tables::calls::{Move, Refusal, State};
 
-#[derive(Clone, Copy)]
+#[derive(Clone, Copy, Debug, PartialEq, Eq)]
 pub(crate) enum Outcome<'a> {
     // The size of the board.
     Board(u32),

@@ -3,7 +3,7 @@ ghost use Rattle.std.specs.Prelude.{◌≡◌};
 ghost use Rattle.tables.specs.Calls.{other_side, refusal_number, side_number};
 
 // Coins are laid, then the sides play, until no head has a move.
-#[derive(Clone, Copy)]
+#[derive(Clone, Copy, Debug, PartialEq, Eq)]
 pub enum State {
     Setting,
     Playing,
@@ -11,7 +11,7 @@ pub enum State {
 }
 
 // The side to move.
-#[derive(Clone, Copy)]
+#[derive(Clone, Copy, Debug, PartialEq, Eq)]
 pub enum Side {
     First,
     Second,
@@ -39,13 +39,13 @@ impl Side {
 }
 
 // A move of a game: its cell and its number there.
-#[derive(Clone, Copy)]
+#[derive(Clone, Copy, Debug, PartialEq, Eq)]
 pub struct Move {
     pub cell: u32,
     pub number: u32,
 }
 
-#[derive(Clone, Copy)]
+#[derive(Clone, Copy, Debug, PartialEq, Eq)]
 pub enum Call {
     // Puts heads on a cell.
     Lay(u32),
@@ -61,7 +61,7 @@ pub enum Call {
     Advise,
 }
 
-#[derive(Clone, Copy)]
+#[derive(Clone, Copy, Debug, PartialEq, Eq)]
 pub enum Answer {
     Laid,
     // The state that the table came to.
@@ -72,7 +72,7 @@ pub enum Answer {
     Advice(Option<Move>),
 }
 
-#[derive(Clone, Copy)]
+#[derive(Clone, Copy, Debug, PartialEq, Eq)]
 pub enum Refusal {
     NoCells,
     NotNow,

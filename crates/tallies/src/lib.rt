@@ -1,12 +1,15 @@
-// Counts of comparisons, and the line that tells them.
+// Counts of comparisons, the lines that tell them, and numbers to try.
 #![tactic(auto)]
 
 ghost use Rattle.std.specs.Prelude.{◌≡◌, ◌+◌, ◌-◌, ◌^◌, min, if◌then◌else◌, ◌==◌};
 
+mod generator;
+
+pub use generator::Generator;
 use std::fmt;
 
 // How often two values agreed, and how often they did not. The counts stop at `u32::MAX`.
-#[derive(Clone, Copy)]
+#[derive(Clone, Copy, Debug, PartialEq, Eq)]
 pub struct Tally {
     agreed: u32,
     differed: u32,
@@ -50,7 +53,7 @@ impl fmt::Display for Tally {
 }
 
 // What was compared, with its counts.
-#[derive(Clone, Copy)]
+#[derive(Clone, Copy, Debug, PartialEq, Eq)]
 pub struct Section {
     pub title: &'static str,
     pub tally: Tally,

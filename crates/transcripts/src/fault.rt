@@ -7,14 +7,14 @@ use records::bytes::At;
 use records::record::RecordFault;
 
 // The part of the reading that a fault comes from.
-#[derive(Clone, Copy)]
+#[derive(Clone, Copy, Debug, PartialEq, Eq)]
 pub enum Layer {
     Bytes,
     Records,
     Referee,
 }
 
-#[derive(Clone, Copy)]
+#[derive(Clone, Copy, Debug, PartialEq, Eq)]
 pub enum Fault {
     // A fault of the records below.
     Records(RecordFault),
