@@ -3,13 +3,14 @@ use mathlib.Core.Path.{◌≡◌, refl, sym, ap, ◌∙◌, subst}
 use mathlib.Core.Bool.{true, false}
 use mathlib.Core.Logic.{inl, inr}
 use Prim.Native.Nat.{ℕ, zero, suc, ◌+◌, ◌*◌, ◌/◌, ◌%◌, ◌-◌, ◌^◌, ◌<◌}
-use native.Mathlib.Nat.{two-pow-succ, div-add-mod', mod-lt, div-lt_iff_lt-mul, mul-le-mul_right}
+use native.Mathlib.Nat.{mod-mod, two-pow-succ, div-add-mod', mod-lt, div-lt_iff_lt-mul, mul-le-mul_right}
 use native.Mathlib.Decide.{dec_lt}
 use native.Mathlib.Omega.{arith}
-use lib.Arith.{digits_lt, digits_div, digits_mod}
+use lib.Arith.{digits_lt, digits_div, digits_mod, mod-mul}
 use lib.Bits.{bit_xor, xor_block}
 use lib.Dec.{lit<}
 use lib.Pow.{pow_pos, pow-add}
+use Rattle.std.specs.Prelude.{eqb}
 use Rattle.nimber_field.specs.Tower.{Tower, ops}
 use Rattle.nimber_field.specs.Nimber.{order, code, decode}
 use Rattle.nimber_field.proofs.Ring.{add_twice}
@@ -43,6 +44,21 @@ high_below k n h = (div-lt_iff_lt-mul (order_pos k)).1 (subst (λ m. n < m) (ord
 
 pub low_below : (k n : ℕ) → n % order k < order k
 low_below k n = mod-lt n (order_pos k)
+
+-- an element is decoded from the lowest bits of a number
+pub decode_low : (k n : ℕ) → decode k (n % order k) ≡ decode k n
+unfolding decode
+decode_low zero n = ap (λ m. eqb m 1) (mod-mod n 2)
+decode_low (suc k) n = λ i. ((high ∙ decode_low k (n / order k)) i, low i)
+  where
+    digits : n % order (suc k) ≡ (n / order k % order k) * order k + n % order k
+    digits = ap (λ m. n % m) (order_suc k) ∙ mod-mul n (order_pos k) (order_pos k)
+
+    high : decode k (n % order (suc k) / order k) ≡ decode k (n / order k % order k)
+    high = ap (λ m. decode k (m / order k)) digits ∙ ap (decode k) (digits_div (n / order k % order k) (low_below k n))
+
+    low : decode k (n % order (suc k) % order k) ≡ decode k (n % order k)
+    low = ap (λ m. decode k (m % order k)) digits ∙ ap (decode k) (digits_mod (n / order k % order k) (low_below k n))
 
 bit_code : (n : ℕ) → n < 2 → code zero (decode zero n) ≡ n
 unfolding code decode

@@ -28,6 +28,10 @@ bits = record {
   inv = λ x. x;
 }
 
+-- the product of the pair (a, b) with its conjugate, an element below the pairs
+abbrev pub norm : (K : Type 0) → Ops K → K → K → K
+norm K R a b = R.add (R.mul b b) (R.add (R.mul b a) (R.mul (R.mul a a) R.half))
+
 -- the pair (x, y) stands for x F + y, where F F = F + half: F is the first element that the field lacks
 abbrev pub pairs : (K : Type 0) → Ops K → Ops (K × K)
 pairs K R = record {
@@ -36,14 +40,11 @@ pairs K R = record {
   half = (R.half, R.nil);
   add = λ x y. (R.add x.0 y.0, R.add x.1 y.1);
   mul = λ x y. pairs_mul x.0 x.1 y.0 y.1 (R.mul x.0 y.0);
-  inv = λ x. pairs_inv x.0 x.1 (R.inv (norm x.0 x.1));
+  inv = λ x. pairs_inv x.0 x.1 (R.inv (norm K R x.0 x.1));
 }
   where
     pairs_mul : K → K → K → K → K → K × K
     pairs_mul a b c d ac = (R.add ac (R.add (R.mul a d) (R.mul b c)), R.add (R.mul b d) (R.mul ac R.half))
-
-    norm : K → K → K
-    norm a b = R.add (R.mul b b) (R.add (R.mul b a) (R.mul (R.mul a a) R.half))
 
     pairs_inv : K → K → K → K × K
     pairs_inv a b n = (R.mul a n, R.mul (R.add b a) n)

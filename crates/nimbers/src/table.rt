@@ -17,3 +17,6 @@ pub const PRODUCTS: [[u8; 16]; 16] = [
     [0, 14, 7, 9, 5, 11, 2, 12, 10, 4, 13, 3, 15, 1, 8, 6],
     [0, 15, 5, 10, 1, 14, 4, 11, 2, 13, 7, 8, 3, 12, 6, 9],
 ];
+
+// The inverses of the numbers below 16, each at its number's place; zero stands at its own.
+pub const INVERSES: [u8; 16] = [0, 1, 3, 2, 15, 12, 9, 11, 10, 6, 8, 7, 5, 14, 13, 4];

@@ -1,13 +1,16 @@
-use Rattle.std.proofs.Common.{sym, subst}
+use Rattle.std.proofs.Common.{sym, ap, ◌∙◌, subst}
 use Rattle.nimber_field.specs.Missing.{Missing}
-use Rattle.nimber_field.specs.Nimber.{◌⊗◌, Excluded}
+use Rattle.nimber_field.specs.Tower.{ops}
+use Rattle.nimber_field.specs.Nimber.{◌⊗◌, Excluded, code, times}
 use Rattle.nimber_field.proofs.Conway.{conway}
+use Rattle.nimbers.proofs.Digits.{alone}
 use Rattle.nimbers.proofs.product.Goals as goal
 
 pub returns : goal.returns
-unfolding ◌⊗◌
+unfolding ◌⊗◌ times
 returns c =
-    let is = c.product_at.ensures.value in
+    let element = c.product.ensures ∙ (λ i. (ops 5).mul (c.split.ensures.lowest i) (c.split-2.ensures.lowest i)) in
+    let is = c.join.ensures ∙ alone _ ∙ ap (code 5) element in
     record {
       value = is;
       smallest =
