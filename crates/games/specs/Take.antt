@@ -1,21 +1,35 @@
 -- Take: a move turns c and a cell that lies below it by an amount of a set. Assumes nothing.
 use Rattle.std.specs.Prelude.{◌≡◌, ℕ, zero, suc, ◌+◌, ◌-◌, ◌<◌, ◌≤◌, Bool, true, cond, ◌&&◌, ◌||◌, ◌⊎◌, Decides, ◌==◌, count_ones}
 use Rattle.games.specs.Rules.{Rules}
-use Rattle.games.specs.Rows.{on, row_game}
+use Rattle.games.specs.Rows.{on, RowRule, row_game_of}
 use Rattle.games.specs.TakeValues.{amount, amounts_up_to, smaller, take_value}
-use Rattle.games.specs.declared.take.Take.{Take}
+use Rattle.games.specs.declared.row_game.RowGame.{RowGame}
+use Rattle.games.specs.declared.take.TakeRule.{TakeRule}
 
 -- whether move i at c turns d: it is c, or it lies below c by the amount that has i smaller ones
 abbrev pub taken : (set c i d : ℕ) → Bool
 taken set c i d = d == c || (amount set (c - d) && (smaller set (c - d)) == i)
 
+-- the rule of Take with a set of amounts
+abbrev pub take_rule : ℕ → RowRule
+take_rule set = record {
+  ceiling = λ size. on size 0 (count_ones set);
+  count = amounts_up_to set;
+  turns = taken set;
+  value = take_value set;
+}
+
 -- Take with a set of amounts on a row of that many cells
 abbrev pub take_game : (size set : ℕ) → Rules
-take_game size set = row_game size (on size 0 (count_ones set)) (amounts_up_to set) (taken set) (take_value set)
+take_game size set = row_game_of (take_rule set) size
+
+-- the type of these games
+abbrev pub Take : Type 0
+Take = RowGame TakeRule
 
 -- the game that a value of the type stands for
 abbrev pub take_of : Take → Rules
-take_of g = take_game g.row.size g.set
+take_of g = take_game g.row.size g.rule.set.bits
 
 -- how many of the numbers from 1 to n are amounts of the set
 unfoldable pub how_many : (set n : ℕ) → ℕ

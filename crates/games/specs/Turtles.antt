@@ -1,8 +1,9 @@
 -- Turtles: a move turns one, two or three coins. Assumes nothing.
 use Rattle.std.specs.Prelude.{◌≡◌, ℕ, ◌+◌, ◌-◌, ◌*◌, ◌/◌, ◌%◌, ◌^◌, ◌<◌, ◌≤◌, Bool, cond, ◌&&◌, ◌||◌, ltb, ◌==◌, count_ones, nat_le, nat_lt}
 use Rattle.games.specs.Rules.{Rules}
-use Rattle.games.specs.Rows.{on, first, row_game}
-use Rattle.games.specs.declared.turtles.Turtles.{Turtles}
+use Rattle.games.specs.Rows.{on, first, RowRule, row_game_of}
+use Rattle.games.specs.declared.row_game.RowGame.{RowGame}
+use Rattle.games.specs.declared.turtles.TurtlesRule.{TurtlesRule}
 
 -- how many pairs of numbers lie below n
 abbrev pub pairs : ℕ → ℕ
@@ -43,9 +44,17 @@ pub record TopPower (n r : ℕ) : Type 0 where
   pub up_to : r ≤ n
   pub top : n < 2 * r
 
+-- the rule of Turtles
+abbrev pub turtles_rule : RowRule
+turtles_rule = record { ceiling = λ size. on size 0 (moves (size - 1)); count = moves; turns = turned; value = odious }
+
 -- Turtles on a row of that many cells
 abbrev pub turtles : ℕ → Rules
-turtles size = row_game size (on size 0 (moves (size - 1))) moves turned odious
+turtles size = row_game_of turtles_rule size
+
+-- the type of these games
+abbrev pub Turtles : Type 0
+Turtles = RowGame TurtlesRule
 
 -- the game that a value of the type stands for
 abbrev pub turtles_of : Turtles → Rules

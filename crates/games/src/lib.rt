@@ -2,6 +2,8 @@
 #![tactic(auto)]
 
 mod row;
+mod row_game;
+mod rule;
 pub mod ruler;
 pub mod rules;
 pub mod take;

@@ -1,7 +1,7 @@
 // A row of up to 64 cells.
 ghost use Rattle.std.specs.Prelude.{◌≡◌, ◌≤◌, if◌then◌else◌, nat_le, nat_lt};
 
-#[derive(Clone, Copy)]
+#[derive(Clone, Copy, Debug, PartialEq, Eq)]
 pub struct Row {
     size: u32,
     ghost few: { size ≤ 64 },

@@ -1,18 +1,20 @@
 // Ruler: a move turns a run of coins.
-ghost use Rattle.std.specs.Prelude.{◌≡◌, ◌<◌};
-ghost use Rattle.games.specs.Rows.{board};
-ghost use Rattle.games.specs.Ruler.{mark, ruler, ruler_of, PowerValues};
+ghost use Rattle.std.specs.Prelude.{◌≡◌, ◌<◌, ◌≤◌};
+ghost use Rattle.games.specs.Rows.{board, rest_by};
+ghost use Rattle.games.specs.Ruler.{gray, mark, ruler, ruler_of, ruler_rule, PowerValues};
 ghost use Rattle.games.specs.Rules.{LowestReplies};
-ghost use Rattle.games.specs.Laws.RulerLaws.{ruler_lawful, ruler_lowest};
-ghost use Rattle.games.specs.Laws.RowLaws.{lowest_replies};
+ghost use Rattle.games.specs.Laws.RulerLaws.{ruler_keeps, ruler_low};
 
 use crate::row::Row;
-use crate::rules::Game;
+use crate::row_game::RowGame;
+use crate::rule::Rule;
 
-#[derive(Clone, Copy)]
-pub struct Ruler {
-    row: Row,
-}
+// The rule of Ruler.
+#[derive(Clone, Copy, Debug, PartialEq, Eq)]
+pub struct RulerRule;
+
+// Ruler on a row.
+pub type Ruler = RowGame<RulerRule>;
 
 impl Ruler {
     // The game on a row of that width; no width above 64 has cells.
@@ -21,9 +23,7 @@ impl Ruler {
         ensures lowest { LowestReplies (ruler_of result) }
         ensures divides { PowerValues (ruler_of result) }
     {
-        Ruler {
-            row: Row::new(width),
-        }
+        RowGame::of(RulerRule, width)
     }
 }
 
@@ -35,44 +35,46 @@ fn mark_at(c: u32) -> u32
     1 << (c + 1).trailing_zeros()
 }
 
-impl Game for Ruler {
-    ghost rules = { ruler_of };
+// The Gray code of n, to which the values of the cells below n add up.
+fn gray_code(n: u32) -> u32
+    ensures { result ≡ gray n }
+{
+    n ^ (n >> 1)
+}
 
-    ghost lawful = { λ g. ruler_lawful g.row.size g.row.few };
+// The rest of move i at c.
+fn rest_of(c: u32, i: u32) -> u32
+    requires cell { c < 64 }
+    requires numbered { i ≤ c }
+    ensures { result ≡ rest_by ruler_rule c i }
+{
+    gray_code(c - i) ^ gray_code(c)
+}
 
-    ghost replies = { λ g. lowest_replies (ruler g.row.size) (ruler_lowest g.row.size g.row.few) };
+impl Rule for RulerRule {
+    ghost rule = { λ _. ruler_rule };
 
-    fn size(&self) -> u32 {
-        self.row.size()
-    }
+    ghost low = { λ _. ruler_low };
 
-    fn ceiling(&self) -> u32 {
-        self.row.size()
+    ghost keeps = { λ _. ruler_keeps };
+
+    fn ceiling(&self, row: Row) -> u32 {
+        row.size()
     }
 
     fn count(&self, c: u32) -> u32 {
-        if self.row.has(c) { c + 1 } else { 0 }
+        c + 1
     }
 
     fn turns(&self, c: u32, i: u32, d: u32) -> bool {
-        i < self.count(c) && c - i <= d && d <= c
+        (c - i..=c).contains(&d)
     }
 
     fn value(&self, c: u32) -> u32 {
-        if self.row.has(c) { mark_at(c) } else { 0 }
+        mark_at(c)
     }
 
-    fn reply(&self, c: u32, w: u32) -> Option<u32> {
-        if w >= self.value(c) {
-            return None;
-        }
-        let mut rest = 0;
-        for i in 0..c {
-            if rest == w {
-                return Some(i);
-            }
-            rest ^= mark_at(c - 1 - i);
-        }
-        Some(c)
+    fn reply(&self, c: u32, w: u32) -> u32 {
+        (0..c).find(|i| rest_of(c, *i) == w).unwrap_or(c)
     }
 }

@@ -2,17 +2,19 @@
 ghost use Rattle.std.specs.Prelude.{◌≡◌, ◌+◌, ◌<◌, ◌≤◌};
 ghost use Rattle.games.specs.Rows.{board};
 ghost use Rattle.games.specs.Rules.{LowestReplies};
-ghost use Rattle.games.specs.Turtles.{besides, in_pair, is_odious, larger, pairs, turtles, turtles_of, TopPower, TurnsThree};
-ghost use Rattle.games.specs.Laws.TurtlesLaws.{turtles_lawful, turtles_lowest};
-ghost use Rattle.games.specs.Laws.RowLaws.{lowest_replies};
+ghost use Rattle.games.specs.Turtles.{besides, in_pair, is_odious, larger, pairs, turtles, turtles_of, turtles_rule, TopPower, TurnsThree};
+ghost use Rattle.games.specs.Laws.TurtlesLaws.{turtles_keeps, turtles_low};
 
 use crate::row::Row;
-use crate::rules::Game;
+use crate::row_game::RowGame;
+use crate::rule::Rule;
 
-#[derive(Clone, Copy)]
-pub struct Turtles {
-    row: Row,
-}
+// The rule of Turtles.
+#[derive(Clone, Copy, Debug, PartialEq, Eq)]
+pub struct TurtlesRule;
+
+// Turtles on a row.
+pub type Turtles = RowGame<TurtlesRule>;
 
 impl Turtles {
     // The game on a row of that width; no width above 64 has cells.
@@ -21,62 +23,48 @@ impl Turtles {
         ensures lowest { LowestReplies (turtles_of result) }
         ensures triples { TurnsThree (turtles_of result) }
     {
-        Turtles {
-            row: Row::new(width),
-        }
+        RowGame::of(TurtlesRule, width)
     }
 }
 
-impl Game for Turtles {
-    ghost rules = { turtles_of };
+impl Rule for TurtlesRule {
+    ghost rule = { λ _. turtles_rule };
 
-    ghost lawful = { λ g. turtles_lawful g.row.size g.row.few };
+    ghost low = { λ _. turtles_low };
 
-    ghost replies = { λ g. lowest_replies (turtles g.row.size) (turtles_lowest g.row.size g.row.few) };
-
-    fn size(&self) -> u32 {
-        self.row.size()
-    }
+    ghost keeps = { λ _. turtles_keeps };
 
     // The last cell has the most moves.
-    fn ceiling(&self) -> u32 {
-        self.count(self.row.size().saturating_sub(1))
+    fn ceiling(&self, row: Row) -> u32 {
+        row.size().checked_sub(1).map_or(0, |last| self.count(last))
     }
 
     fn count(&self, c: u32) -> u32 {
-        if self.row.has(c) {
-            1 + c + pairs_below(c)
-        } else {
-            0
-        }
+        1 + c + pairs_below(c)
     }
 
     fn turns(&self, c: u32, i: u32, d: u32) -> bool {
-        i < self.count(c) && (d == c || turns_besides(c, i, d))
+        d == c || turns_besides(c, i, d)
     }
 
     fn value(&self, c: u32) -> u32 {
-        if !self.row.has(c) {
-            0
-        } else if has_odd_ones(2 * c) {
+        if has_odd_ones(2 * c) {
             2 * c
         } else {
             2 * c + 1
         }
     }
 
-    fn reply(&self, c: u32, w: u32) -> Option<u32> {
-        if w >= self.value(c) {
-            None
-        } else if w == 0 {
-            Some(0)
+    fn reply(&self, c: u32, w: u32) -> u32 {
+        if w == 0 {
+            0
         } else if has_odd_ones(w) {
-            Some(w / 2 + 1)
+            w / 2 + 1
         } else {
             // The values of a and b add up to w, and that of b is the highest power of two in w.
             let b = top_power(w / 2);
             let a = w / 2 - b;
-            Some(c + 1 + pairs_below(b) + a)
+            c + 1 + pairs_below(b) + a
         }
     }
 }
@@ -97,11 +85,7 @@ fn larger_of(n: u32) -> u32
     ensures below { result < 64 }
     ensures starts { pairs result ≤ n }
 {
-    let mut b = 1;
-    while pairs_below(b + 1) <= n {
-        b += 1;
-    }
-    b
+    (1..63).find(|b| n < pairs_below(b + 1)).unwrap_or(63)
 }
 
 // Whether d is one of the two numbers of pair n.
@@ -139,5 +123,5 @@ fn top_power(n: u32) -> u32
     requires { 0 < n }
     ensures { TopPower n result }
 {
-    1 << (31 - n.leading_zeros())
+    1 << n.ilog2()
 }

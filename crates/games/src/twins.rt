@@ -2,17 +2,19 @@
 ghost use Rattle.std.specs.Prelude.{◌≡◌};
 ghost use Rattle.games.specs.Rows.{board};
 ghost use Rattle.games.specs.Rules.{LowestReplies};
-ghost use Rattle.games.specs.Twins.{twins, twins_of};
-ghost use Rattle.games.specs.Laws.TwinsLaws.{twins_lawful, twins_lowest};
-ghost use Rattle.games.specs.Laws.RowLaws.{lowest_replies};
+ghost use Rattle.games.specs.Twins.{twins, twins_of, twins_rule};
+ghost use Rattle.games.specs.Laws.TwinsLaws.{twins_keeps, twins_low};
 
 use crate::row::Row;
-use crate::rules::Game;
+use crate::row_game::RowGame;
+use crate::rule::Rule;
 
-#[derive(Clone, Copy)]
-pub struct Twins {
-    row: Row,
-}
+// The rule of Twins.
+#[derive(Clone, Copy, Debug, PartialEq, Eq)]
+pub struct TwinsRule;
+
+// Twins on a row.
+pub type Twins = RowGame<TwinsRule>;
 
 impl Twins {
     // The game on a row of that width; no width above 64 has cells.
@@ -20,40 +22,34 @@ impl Twins {
         ensures game { twins_of result ≡ twins (board width) }
         ensures lowest { LowestReplies (twins_of result) }
     {
-        Twins {
-            row: Row::new(width),
-        }
+        RowGame::of(TwinsRule, width)
     }
 }
 
-impl Game for Twins {
-    ghost rules = { twins_of };
+impl Rule for TwinsRule {
+    ghost rule = { λ _. twins_rule };
 
-    ghost lawful = { λ g. twins_lawful g.row.size g.row.few };
+    ghost low = { λ _. twins_low };
 
-    ghost replies = { λ g. lowest_replies (twins g.row.size) (twins_lowest g.row.size g.row.few) };
+    ghost keeps = { λ _. twins_keeps };
 
-    fn size(&self) -> u32 {
-        self.row.size()
-    }
-
-    fn ceiling(&self) -> u32 {
-        self.row.size().saturating_sub(1)
+    fn ceiling(&self, row: Row) -> u32 {
+        row.size().saturating_sub(1)
     }
 
     fn count(&self, c: u32) -> u32 {
-        if self.row.has(c) { c } else { 0 }
+        c
     }
 
     fn turns(&self, c: u32, i: u32, d: u32) -> bool {
-        i < self.count(c) && (d == c || d == i)
+        d == c || d == i
     }
 
     fn value(&self, c: u32) -> u32 {
-        if self.row.has(c) { c } else { 0 }
+        c
     }
 
-    fn reply(&self, c: u32, w: u32) -> Option<u32> {
-        if w < self.value(c) { Some(w) } else { None }
+    fn reply(&self, _c: u32, w: u32) -> u32 {
+        w
     }
 }

@@ -1,16 +1,16 @@
 -- Take keeps the laws: the rests at c are the values of the cells to which an amount leads. Assumes nothing.
-use Rattle.std.specs.Prelude.{◌≡◌, ℕ, ◌-◌, ◌^◌, ◌<◌, ◌≤◌, true, cond, ◌&&◌, ◌≢◌, ◌⊎◌, Some, None, Decides, Option, ◌==◌, count_ones, refl}
+use Rattle.std.specs.Prelude.{◌≡◌, ℕ, ◌-◌, ◌^◌, ◌<◌, ◌≤◌, true, cond, ◌&&◌, ◌≢◌, ◌⊎◌, Some, None, IsSome, Decides, Option, ◌==◌, refl}
 use Rattle.std.proofs.Common.{sym, ap, ◌∙◌, subst, inl, inr, arith, eqb-true, eq-eqb, lt-ltb}
 use Rattle.std.proofs.Math.Decide.{dec_lt}
 use Rattle.std.proofs.lemmas.Nat.{ones-le}
 use Rattle.std.proofs.lemmas.Bool.{and_parts, and_from, or_cases, or_left, or_right, cases_order, not-true, both_ways}
 use Rattle.std.proofs.lemmas.Bool.Decides.{nat_tests, Decides-at, Decides-not}
 use Rattle.games.specs.Rules.{sum_held, Lawful, LowestReplies}
-use Rattle.games.specs.Rows.{on}
+use Rattle.games.specs.Rows.{on, rest_by, LowestMove, RowLaws}
 use Rattle.games.specs.TakeValues.{amount, amounts_up_to, smaller, SmallestLeading, take_value}
-use Rattle.games.specs.Take.{taken, take_game, how_many, ByAmounts}
+use Rattle.games.specs.Take.{taken, take_rule, take_game, how_many, ByAmounts}
 use Rattle.games.specs.Laws.Sums.{sum_one}
-use Rattle.games.specs.Laws.RowLaws.{RowLaws, row_lawful, row_lowest, answer_is}
+use Rattle.games.specs.Laws.RowLaws.{row_lawful, row_lowest}
 use Rattle.games.specs.Laws.AmountLaws.{Nth, nth, amounts_mono, amount_pos, amount_counts, amounts_all, how_many_is}
 use Rattle.games.specs.Laws.TakeValueLaws.{lower, value_low, value_unled, value_led}
 
@@ -53,8 +53,8 @@ module _ (set : ℕ) where
   rest_nth : (c i : ℕ) (n : Nth set c i) → sum_held c (taken set c i) (take_value set) ≡ take_value set (c - n.s)
   rest_nth c i n = ap (λ j. sum_held c (taken set c j) (take_value set)) (sym n.number) ∙ rest_is c n.s n.within n.is
 
-  laws : (size : ℕ) → size ≤ 64 → RowLaws size (on size 0 (count_ones set)) (amounts_up_to set) (taken set) (take_value set)
-  laws size small = record {
+  pub take_keeps : (size : ℕ) → size ≤ 64 → RowLaws (take_rule set) size
+  take_keeps size small = record {
     few = λ c l. let k = amounts_all set c in grind (arith, nat_tests);
     own = λ c i l h. or_left _ _ (eq-eqb c c refl);
     not_above = λ c i d l h e. grind (arith, nat_tests);
@@ -67,13 +67,14 @@ module _ (set : ℕ) where
         (smaller set k.s, numbered c k.s k.within k.is, rest_is c k.s k.within k.is ∙ k.to);
   }
 
+  pub take_low : set < 2 ^ 32 → (size : ℕ) → size ≤ 64 → (take_rule set).ceiling size ≤ 4194303
+  take_low fits size small = let few = ones-le 32 set fits in grind (arith, nat_tests)
+
   pub take_lawful : (size : ℕ) → size ≤ 64 → set < 2 ^ 32 → Lawful (take_game size set)
-  take_lawful size small fits =
-      let few = ones-le 32 set fits in
-      row_lawful size (on size 0 (count_ones set)) _ _ _ (laws size small) (omega arith) (grind (arith, nat_tests))
+  take_lawful size small fits = row_lawful (take_rule set) size (take_keeps size small) (omega arith) (take_low fits size small)
 
   pub take_lowest : (size : ℕ) → size ≤ 64 → LowestReplies (take_game size set)
-  take_lowest size small = row_lowest size (on size 0 (count_ones set)) _ _ _ (laws size small)
+  take_lowest size small = row_lowest (take_rule set) size (take_keeps size small)
 
   pub take_amounts : (size : ℕ) → ByAmounts size set (take_game size set)
   take_amounts size = record {
@@ -89,31 +90,30 @@ module _ (set : ℕ) where
       listed : (c s : ℕ) → c < size → s ≤ c → amount set s ≡ true → how_many set (s - 1) < on size c (amounts_up_to set c)
       listed c s l h e = omega (arith, on_row c l, how_many_is set (s - 1), numbered c s h e)
 
-  -- the reply is the move of the smallest amount that leads to a cell of value w
-  abbrev pub move_of : Option ℕ → Option ℕ
-  move_of (Some s) = Some (smaller set s)
-  move_of None = None
+  module _ (c w : ℕ) (f : ℕ → ℕ) (few : c < 64) (h : w < take_value set c) (known : (d : ℕ) → d < 64 → f d ≡ take_value set d) where
+    -- some amount leads to a cell of that value
+    pub some_leads : (r : Option ℕ) → SmallestLeading set f c w r → IsSome r
+    some_leads (Some s) led = refl
+    some_leads None none =
+        let k = value_led set c w h in
+        absurd (both_ways _ (none k.s k.within) (and_from _ _ k.is (eq-eqb _ w (known (c - k.s) (omega arith) ∙ k.to))))
 
-  module _ (size c w : ℕ) (f : ℕ → ℕ) (small : size ≤ 64) (h : w < on size c (take_value set c))
-      (known : (d : ℕ) → d < 64 → f d ≡ take_value set d) where
-    pub take_reply : (r : Option ℕ) → SmallestLeading set f c w r → move_of r ≡ (take_game size set).answer c w
-    take_reply (Some s) led =
+    -- the reply is the move of the smallest such amount
+    pub take_reply : (s : ℕ) → SmallestLeading set f c w (Some s) → LowestMove (take_rule set) c w (smaller set s)
+    take_reply s led =
         let p = and_parts _ _ led.1 in
         let n = numbered c s led.0 p.0 in
-        answer_is size (on size 0 (count_ones set)) _ _ _ (laws size small) c w _ h (λ l _. record {
+        record {
           numbered = n;
           fits = rest_is c s led.0 p.0 ∙ sym (known (c - s) (omega arith)) ∙ eqb-true _ w p.1;
-          lowest = λ j m e. passed l j (nth set c j (omega arith)) m e;
-        })
+          lowest = λ j m e. passed j (nth set c j (omega arith)) m e;
+        }
       where
-        passed : c < size → (j : ℕ) → Nth set c j → j < smaller set s → sum_held c (taken set c j) (take_value set) ≢ w
-        passed l j n m e = by_order (dec_lt n.s s)
+        passed : (j : ℕ) → Nth set c j → j < smaller set s → rest_by (take_rule set) c j ≢ w
+        passed j n m e = by_order (dec_lt n.s s)
           where
             by_order : Dec (n.s < s) → ⊥
             by_order (yes k) =
                 both_ways _ (led.2 n.s k)
                 (and_from _ _ n.is (eq-eqb _ w (known (c - n.s) (omega arith) ∙ sym (rest_nth c j n) ∙ e)))
             by_order (no k) = omega (arith, amounts_mono set (s - 1) (n.s - 1) (omega arith), n.number)
-    take_reply None none =
-        let k = value_led set c w (grind (arith, nat_tests)) in
-        absurd (both_ways _ (none k.s k.within) (and_from _ _ k.is (eq-eqb _ w (known (c - k.s) (grind (arith, nat_tests)) ∙ k.to))))

@@ -1,5 +1,5 @@
 -- The value of a cell is the smallest number that is missing there. Assumes nothing.
-use Rattle.std.specs.Prelude.{◌≡◌, ℕ, zero, suc, ◌-◌, ◌<◌, ◌≤◌, Bool, true, false, not, [], ◌∷◌, length, is_some, Some, None, Decides, Option}
+use Rattle.std.specs.Prelude.{◌≡◌, ℕ, zero, suc, ◌-◌, ◌<◌, ◌≤◌, Bool, true, false, not, [], ◌∷◌, ◌+◌, length, is_some, Some, None, Decides, Option, unwrap_or, MatchOption}
 use Rattle.std.proofs.Math.Path.{refl, ap, fun_ext}
 use Rattle.std.proofs.Common.{sym, ◌∙◌, subst, eqb-true, eq-eqb}
 use Rattle.std.proofs.Math.Decide.{dec_lt}
@@ -110,9 +110,34 @@ module _ (set : ℕ) where
   leads_is f c v None h =
       not-true _ ((Decides-not _ (any_decides (suc c) (leading set f c v))).1 (λ k. both_ways _ (h k.0 (omega (arith, k.1))) k.2))
 
+  -- 0 is no amount, so a search for the smallest one may begin at 1
+  pub first_leading : (f : ℕ → ℕ) (c v : ℕ) (r : Option ℕ)
+      → MatchOption r ((s : ℕ) → 1 ≤ s → s < c + 1 → leading set f c v s ≡ false)
+      (λ s. (1 ≤ s) × (s < c + 1) × (leading set f c v s ≡ true) × ((t : ℕ) → 1 ≤ t → t < s → leading set f c v t ≡ false))
+      → SmallestLeading set f c v r
+  first_leading f c v (Some s) m = (omega (arith, m.1), m.2, passed)
+    where
+      passed : (t : ℕ) → t < s → leading set f c v t ≡ false
+      passed zero l = refl
+      passed (suc t) l = m.3 (suc t) (omega arith) l
+  first_leading f c v None none = passed
+    where
+      passed : (t : ℕ) → t ≤ c → leading set f c v t ≡ false
+      passed zero l = refl
+      passed (suc t) l = none (suc t) (omega arith) (omega arith)
+
   -- the smallest number to which no amount leads, by the values of the cells below
   pub value_is : (f : ℕ → ℕ) (c v : ℕ) → ((d : ℕ) → d < c → f d ≡ take_value set d)
       → v ≤ c → leads set f c v ≡ false → ((u : ℕ) → u < v → leads set f c u ≡ true) → v ≡ take_value set c
   value_is f c v known h e led =
       sym (first_is (suc c) _ v (omega arith) (not_from_false _ e) (λ u l. not_from_true _ (led u l)))
       ∙ missing_same f (take_value set) c known ∙ sym (take_value_is c)
+
+  -- no value below c is missing: then c is
+  pub first_unled : (f : ℕ → ℕ) (c : ℕ) → ((d : ℕ) → d < c → f d ≡ take_value set d) → (r : Option ℕ)
+      → MatchOption r ((v : ℕ) → 0 ≤ v → v < c → leads set f c v ≡ true)
+      (λ v. (0 ≤ v) × (v < c) × (leads set f c v ≡ false) × ((u : ℕ) → 0 ≤ u → u < v → leads set f c u ≡ true))
+      → unwrap_or r c ≡ take_value set c
+  first_unled f c known (Some v) m = value_is f c v known (omega (arith, m.1)) m.2 (λ u l. m.3 u (omega arith) l)
+  first_unled f c known None led =
+      value_is f c c known (omega arith) (top_unled f c (λ d l. omega (arith, known d l, value_low d))) (λ u l. led u (omega arith) l)

@@ -1,18 +1,18 @@
 -- Turtles keeps the laws: the rests at c are 0, the values below that of c, and the sums of two of these. Assumes nothing.
-use Rattle.std.specs.Prelude.{◌≡◌, ℕ, zero, suc, ◌+◌, ◌-◌, ◌*◌, ◌/◌, ◌%◌, ◌<◌, ◌≤◌, true, ◌&&◌, ◌||◌, ◌≢◌, Some, ◌==◌, count_ones, nat_lt, refl}
+use Rattle.std.specs.Prelude.{◌≡◌, ℕ, zero, suc, ◌+◌, ◌-◌, ◌*◌, ◌/◌, ◌%◌, ◌<◌, ◌≤◌, true, ◌&&◌, ◌||◌, ◌≢◌, ◌==◌, count_ones, nat_lt, refl}
 use Rattle.std.proofs.Common.{sym, ap, ap₂, ◌∙◌, arith}
 use Rattle.std.proofs.Math.Decide.{ℕ_discrete, dec_lt}
 use Rattle.std.proofs.lemmas.Nat.{xor_lt}
 use Rattle.std.proofs.lemmas.Bool.Decides.{nat_tests}
 use Rattle.nimber_field.specs.Nimber.{◌⊕◌}
 use Rattle.games.specs.Rules.{sum_held, Lawful, LowestReplies}
-use Rattle.games.specs.Rows.{on}
-use Rattle.games.specs.Turtles.{pairs, larger, moves, turned, odious, turtles, TopPower, TurnsThree}
+use Rattle.games.specs.Rows.{on, LowestMove, RowLaws}
+use Rattle.games.specs.Turtles.{pairs, larger, moves, turned, odious, turtles_rule, turtles, TopPower, TurnsThree}
 use Rattle.games.specs.Laws.Sums.{sum_none, sum_one, sum_two}
 use Rattle.games.specs.Laws.Pairs.{pairs_more, pairs_up, larger_is, pair_of}
 use Rattle.games.specs.Laws.Odious.{ones_zero, ones_sum, odious_half, odious_odd, odd_odious, odious_order, even_half}
 use Rattle.games.specs.Laws.Odious.{top_is, twice_top, top_sum, ones_top, odious_top}
-use Rattle.games.specs.Laws.RowLaws.{RowLaws, row_lawful, row_lowest, answer_is}
+use Rattle.games.specs.Laws.RowLaws.{row_lawful, row_lowest}
 
 -- a move by its kind
 data Kind (c i : ℕ) : Type 0 where
@@ -69,18 +69,12 @@ not_above c i d (three a b h k e) few q =
     let t : (d == a || (d == b || d == c)) ≡ true = sym (turns_three a b c d h k few) ∙ ap (λ j. turned c j d) (sym e) ∙ q in
     grind (arith, nat_tests)
 
--- i is the lowest move at c whose rest is w
-pub record Best (c w i : ℕ) : Type 0 where
-  numbered : i < moves c
-  fits : sum_held c (turned c i) odious ≡ w
-  lowest : (j : ℕ) → j < i → sum_held c (turned c j) odious ≢ w
-
 numbered : (c i : ℕ) → Kind c i → i < moves c
 numbered c i (one e) = omega arith
 numbered c i (two a h e) = omega arith
 numbered c i (three a b h k e) = omega (arith, pairs_more b, pairs_up (b + 1) c (omega arith))
 
-best_of : (c w i : ℕ) (k : Kind c i) → c < 64 → rest_of k ≡ w → ((j : ℕ) → j < i → (k : Kind c j) → rest_of k ≢ w) → Best c w i
+best_of : (c w i : ℕ) (k : Kind c i) → c < 64 → rest_of k ≡ w → ((j : ℕ) → j < i → (k : Kind c j) → rest_of k ≢ w) → LowestMove turtles_rule c w i
 best_of c w i k few is lower =
     let within = numbered c i k in
     record {
@@ -89,10 +83,10 @@ best_of c w i k few is lower =
       lowest = λ j h e. let m = kind c j (omega arith) in lower j h m (sym (rest_is c j m few) ∙ e);
     }
 
-pub best_one : (c w : ℕ) → c < 64 → w ≡ 0 → Best c w 0
+pub best_one : (c w : ℕ) → c < 64 → w ≡ 0 → LowestMove turtles_rule c w 0
 best_one c w few e = best_of c w 0 (one refl) few (sym e) (λ j h. absurd (omega arith))
 
-pub best_two : (c w : ℕ) → c < 64 → w < odious c → count_ones w % 2 ≡ 1 → Best c w (w / 2 + 1)
+pub best_two : (c w : ℕ) → c < 64 → w < odious c → count_ones w % 2 ≡ 1 → LowestMove turtles_rule c w (w / 2 + 1)
 best_two c w few h odd = best_of c w (w / 2 + 1) (two (w / 2) below refl) few (odd_odious w odd) lower
   where
     below : w / 2 < c
@@ -133,24 +127,24 @@ module _ (c w b : ℕ) (few : c < 64) (h : w < odious c) (even : count_ones w % 
           omega (arith, s, r, odious_half a, ap pairs o)
       by_larger (no n) (no o) = omega (arith, pairs_more b, pairs_up (b + 1) d (omega arith), left_below)
 
-  pub best_three : Best c w (c + 1 + pairs b + (w / 2 - b))
+  pub best_three : LowestMove turtles_rule c w (c + 1 + pairs b + (w / 2 - b))
   best_three =
       best_of c w (c + 1 + pairs b + (w / 2 - b)) (three (w / 2 - b) b left_below top_below refl) few
       (ap₂ ◌⊕◌ odious_left (odious_top (w / 2) b t) ∙ top_sum (w / 2) b t (w - 2 * b) (omega arith) ∙ omega arith) lower
 
 -- each number below the value has its lowest move
-best : (c w : ℕ) → c < 64 → w < odious c → (i : ℕ) × Best c w i
+best : (c w : ℕ) → c < 64 → w < odious c → (i : ℕ) × LowestMove turtles_rule c w i
 best c w few h = by_ones (ℕ_discrete w 0) (ℕ_discrete (count_ones w % 2) 1)
   where
-    by_ones : Dec (w ≡ 0) → Dec (count_ones w % 2 ≡ 1) → (i : ℕ) × Best c w i
+    by_ones : Dec (w ≡ 0) → Dec (count_ones w % 2 ≡ 1) → (i : ℕ) × LowestMove turtles_rule c w i
     by_ones (yes e) o = (0, best_one c w few e)
     by_ones (no e) (yes o) = (w / 2 + 1, best_two c w few h o)
     by_ones (no e) (no o) =
         let t = top_is (w / 2) (even_half w e o) (omega (arith, odious_half c)) in
         (_, best_three c w _ few h o t)
 
-laws : (size : ℕ) → size ≤ 64 → RowLaws size (on size 0 (moves (size - 1))) moves turned odious
-laws size small = record {
+pub turtles_keeps : (size : ℕ) → size ≤ 64 → RowLaws turtles_rule size
+turtles_keeps size small = record {
   few = λ c l. let up = pairs_up c (size - 1) (omega arith) in grind (arith, nat_tests);
   own = λ c i l h. grind (arith, nat_tests);
   not_above = λ c i d l h e. not_above c i d (kind c i h) (omega arith) e;
@@ -159,19 +153,14 @@ laws size small = record {
   found = λ c w l h. let b = best c w (omega arith) h in (b.0, b.1.numbered, b.1.fits);
 }
 
+pub turtles_low : (size : ℕ) → size ≤ 64 → turtles_rule.ceiling size ≤ 4194303
+turtles_low size small = let few = pairs_up (size - 1) 64 (omega arith) in grind (arith, nat_tests)
+
 pub turtles_lawful : (size : ℕ) → size ≤ 64 → Lawful (turtles size)
-turtles_lawful size small =
-    let few = pairs_up (size - 1) 64 (omega arith) in
-    row_lawful size _ _ _ _ (laws size small) (omega arith) (grind (arith, nat_tests))
+turtles_lawful size small = row_lawful turtles_rule size (turtles_keeps size small) (omega arith) (turtles_low size small)
 
 pub turtles_lowest : (size : ℕ) → size ≤ 64 → LowestReplies (turtles size)
-turtles_lowest size small = row_lowest size _ _ _ _ (laws size small)
-
-pub turtles_answer : (size c w i : ℕ) → size ≤ 64 → w < on size c (odious c) → (c < 64 → w < odious c → Best c w i)
-    → Some i ≡ (turtles size).answer c w
-turtles_answer size c w i small h given =
-    answer_is size _ _ _ _ (laws size small) c w i h
-    (λ l k. let b = given (omega arith) k in record { numbered = b.numbered; fits = b.fits; lowest = b.lowest })
+turtles_lowest size small = row_lowest turtles_rule size (turtles_keeps size small)
 
 pub turtles_triples : (size : ℕ) → size ≤ 64 → TurnsThree (turtles size)
 turtles_triples size small a b c d h k l =

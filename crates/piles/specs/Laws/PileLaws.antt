@@ -1,13 +1,9 @@
 -- Each pile is a game, and its replies are such. Assumes nothing.
 use Rattle.games.specs.Rules.{Lawful, Replies}
-use Rattle.games.specs.Ruler.{ruler_of}
-use Rattle.games.specs.Take.{take_of}
-use Rattle.games.specs.Turtles.{turtles_of}
-use Rattle.games.specs.Twins.{twins_of}
-use Rattle.games.specs.declared.ruler.Ruler.{Ruler}
-use Rattle.games.specs.declared.take.Take.{Take}
-use Rattle.games.specs.declared.turtles.Turtles.{Turtles}
-use Rattle.games.specs.declared.twins.Twins.{Twins}
+use Rattle.games.specs.Ruler.{Ruler, ruler_of}
+use Rattle.games.specs.Take.{Take, take_of}
+use Rattle.games.specs.Turtles.{Turtles, turtles_of}
+use Rattle.games.specs.Twins.{Twins, twins_of}
 use Rattle.games.specs.Laws.RowLaws.{lowest_replies}
 use Rattle.games.specs.Laws.RulerLaws.{ruler_lawful, ruler_lowest}
 use Rattle.games.specs.Laws.TakeLaws.{take_lawful, take_lowest}
@@ -45,10 +41,10 @@ turtles_replies : (g : Turtles) → Replies (turtles_of g)
 turtles_replies g = lowest_replies (turtles_of g) (turtles_lowest g.row.size g.row.few)
 
 take_law : (g : Take) → Lawful (take_of g)
-take_law g = take_lawful g.set g.row.size g.row.few g.fits
+take_law g = take_lawful g.rule.set.bits g.row.size g.row.few g.rule.set.fits
 
 take_replies : (g : Take) → Replies (take_of g)
-take_replies g = lowest_replies (take_of g) (take_lowest g.set g.row.size g.row.few)
+take_replies g = lowest_replies (take_of g) (take_lowest g.rule.set.bits g.row.size g.row.few)
 
 pub pile_lawful : (p : Pile) → Lawful (pile_of p)
 pile_lawful (TurningCorners p) = product_lawful _ _ (twins_law p.left) (twins_law p.right)

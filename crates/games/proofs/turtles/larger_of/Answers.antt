@@ -1,13 +1,14 @@
-use Rattle.std.proofs.Common.{◌+◌, sym, arith}
-use Rattle.games.specs.Laws.Pairs.{pairs_order, larger_is}
+use Rattle.std.proofs.Common.{◌+◌, ◌<◌, ◌≤◌, rules, tests}
+use Rattle.std.proofs.lemmas.Iterator.{first_from_Range}
+use Rattle.games.specs.Turtles.{pairs}
+use Rattle.games.specs.Laws.Pairs.{larger_found}
 use Rattle.games.proofs.turtles.larger_of.Goals as goal
 
-pub loop-b-preserved : goal.loop-b-preserved
-loop-b-preserved c = (pairs_order (c.loop-b.b + 1) 64 (omega arith), omega arith)
-
 pub returns : goal.returns
-returns c = record {
-  value = sym (larger_is c.args.n c.loop-b.b c.loop-b.invariant.0 c.loop-b.invariant.1 (omega arith));
-  below = c.loop-b.invariant.0;
-  starts = c.loop-b.invariant.1;
-}
+returns c =
+    let n = c.args.n in
+    let b =
+    larger_found n c.unwrap_or.result c.find.result c.requires c.unwrap_or.ensures
+    (first_from_Range _ _ _ c.find.result (λ b. n < pairs (b + 1)) (λ b. pairs (b + 1) ≤ n) c.find.ensures.ran
+    (λ x q k. search (rules, tests)) (λ x q k. search (rules, tests))) in
+    record { value = b.value; below = b.below; starts = b.starts }
