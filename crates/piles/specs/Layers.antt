@@ -91,6 +91,13 @@ pub record Stands (A B : Rules) (c row column : ℕ) : Type 0 where
   pub row_is : row ≡ c / B.cells
   pub column_is : column ≡ c % B.cells
 
+-- the game has nothing at c: no moves, no value and no reply
+pub record Nothing (G : Rules) (c : ℕ) : Type 0 where
+  pub count : G.count c ≡ 0
+  pub holds : (i d : ℕ) → G.holds c i d ≡ false
+  pub worth : G.worth c ≡ 0
+  pub answer : (w : ℕ) → G.answer c w ≡ None
+
 -- in a product with cells, the value of the cell for x and y by the smallest-missing rule over the product's own moves is
 -- the nim product of the values at x and y
 abbrev pub Tartan : Rules → Rules → Type 0

@@ -1,4 +1,5 @@
 pub mod Layers
 pub mod Numbered
+pub mod Parts
 pub mod Worked
 pub mod Laws

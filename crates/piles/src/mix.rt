@@ -1,6 +1,7 @@
 // A mixture: the cells of two games side by side.
-ghost use Rattle.std.specs.Prelude.{◌≡◌};
+ghost use Rattle.std.specs.Prelude.{◌≡◌, MatchOption, false};
 ghost use Rattle.piles.specs.Layers.{mixes, mixture};
+ghost use Rattle.piles.specs.Parts.{IsPart};
 ghost use Rattle.piles.specs.Laws.MixLaws.{mixture_lawful, mixture_replies};
 
 use games::Game;
@@ -9,6 +10,13 @@ use games::Game;
 pub struct Mix<A, B> {
     left: A,
     right: B,
+}
+
+// A cell of the mixture, by its number in the game that it belongs to.
+#[derive(Clone, Copy)]
+enum Part {
+    Left(u32),
+    Right(u32),
 }
 
 impl<A: Game, B: Game> Mix<A, B> {
@@ -23,6 +31,19 @@ impl<A: Game, B: Game> Mix<A, B> {
         ensures { result ≡ mixes (A.Game.rules self.now.left) (B.Game.rules self.now.right) }
     {
         self.left.size() + self.right.size() <= 4096
+    }
+
+    // The game that a cell belongs to; a mixture with too many cells has none.
+    fn part(&self, c: u32) -> Option<Part>
+        ensures { MatchOption result (mixes (A.Game.rules self.now.left) (B.Game.rules self.now.right) ≡ false) (λ p. IsPart (A.Game.rules self.now.left) (B.Game.rules self.now.right) c p) }
+    {
+        if !self.fits() {
+            return None;
+        }
+        Some(
+            c.checked_sub(self.left.size())
+                .map_or(Part::Left(c), Part::Right),
+        )
     }
 }
 
@@ -50,43 +71,35 @@ impl<A: Game, B: Game> Game for Mix<A, B> {
     }
 
     fn count(&self, c: u32) -> u32 {
-        if !self.fits() {
-            return 0;
-        }
-        match c.checked_sub(self.left.size()) {
-            None => self.left.count(c),
-            Some(d) => self.right.count(d),
+        match self.part(c) {
+            Some(Part::Left(c)) => self.left.count(c),
+            Some(Part::Right(c)) => self.right.count(c),
+            None => 0,
         }
     }
 
     fn turns(&self, c: u32, i: u32, d: u32) -> bool {
-        if !self.fits() {
-            return false;
-        }
-        let size = self.left.size();
-        match c.checked_sub(size) {
-            None => self.left.turns(c, i, d),
-            Some(c) => d >= size && self.right.turns(c, i, d - size),
+        match self.part(c) {
+            Some(Part::Left(c)) => self.left.turns(c, i, d),
+            Some(Part::Right(c)) => d
+                .checked_sub(self.left.size())
+                .is_some_and(|d| self.right.turns(c, i, d)),
+            None => false,
         }
     }
 
     fn value(&self, c: u32) -> u32 {
-        if !self.fits() {
-            return 0;
-        }
-        match c.checked_sub(self.left.size()) {
-            None => self.left.value(c),
-            Some(d) => self.right.value(d),
+        match self.part(c) {
+            Some(Part::Left(c)) => self.left.value(c),
+            Some(Part::Right(c)) => self.right.value(c),
+            None => 0,
         }
     }
 
     fn reply(&self, c: u32, w: u32) -> Option<u32> {
-        if !self.fits() {
-            return None;
-        }
-        match c.checked_sub(self.left.size()) {
-            None => self.left.reply(c, w),
-            Some(d) => self.right.reply(d, w),
+        match self.part(c)? {
+            Part::Left(c) => self.left.reply(c, w),
+            Part::Right(c) => self.right.reply(c, w),
         }
     }
 }

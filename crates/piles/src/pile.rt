@@ -20,6 +20,7 @@ pub enum Pile {
 
 impl Pile {
     // The pile of that number, from 1 to 6.
+    #[tactic(auto, unfolding(crate::specs::Numbered::numbered))]
     pub fn new(number: u32, w: u32, h: u32, set: u32) -> Option<Pile>
         ensures { option_map pile_of result ≡ numbered number w h set }
     {
@@ -41,7 +42,7 @@ impl Pile {
     }
 }
 
-// Hands a question to the pile that is there.
+// Hands a question to the pile that is there. Tried as a method that takes a closure over `&dyn Game`: no contract can be stated of it yet.
 macro_rules! hand_on {
     ($pile:expr, $p:ident => $question:expr) => {
         match $pile {

@@ -1,7 +1,7 @@
 // A product: a board with a row for each cell of one game and a column for each cell of another.
 ghost use Rattle.std.specs.Prelude.{◌≡◌, ◌<◌, ◌≤◌, MatchOption};
 ghost use Rattle.nimber_field.specs.Nimber.{◌⊕◌, ◌⊗◌, inverse_of};
-ghost use Rattle.piles.specs.Layers.{multiplies, partner, smallest_met, Stands, TartanTheorem};
+ghost use Rattle.piles.specs.Layers.{multiplies, partner, smallest_met, Nothing, Stands, TartanTheorem};
 ghost use Rattle.piles.specs.Layers.{product as product_of};
 ghost use Rattle.piles.specs.Laws.ProductLaws.{product_lawful, product_replies};
 
@@ -21,6 +21,7 @@ struct Place {
 }
 
 impl<A: Game, B: Game> Product<A, B> {
+    #[tactic(auto, using(crate::specs::Laws::ProductLaws::tartan_theorem))]
     pub fn new(left: A, right: B) -> Product<A, B>
         ensures game { product_of (A.Game.rules result.left) (B.Game.rules result.right) ≡ product_of (A.Game.rules left) (B.Game.rules right) }
         ensures tartan { TartanTheorem }
@@ -38,7 +39,7 @@ impl<A: Game, B: Game> Product<A, B> {
 
     // The row and the column of a cell on the board.
     fn place(&self, c: u32) -> Option<Place>
-        ensures { MatchOption result ((product_of (A.Game.rules self.now.left) (B.Game.rules self.now.right)).cells ≤ c) (λ p. Stands (A.Game.rules self.now.left) (B.Game.rules self.now.right) c p.row p.column) }
+        ensures { MatchOption result (Nothing (product_of (A.Game.rules self.now.left) (B.Game.rules self.now.right)) c) (λ p. Stands (A.Game.rules self.now.left) (B.Game.rules self.now.right) c p.row p.column) }
     {
         let columns = self.right.size();
         if self.fits() && c < self.left.size() * columns {
@@ -104,6 +105,7 @@ impl<A: Game, B: Game> Game for Product<A, B> {
         }
     }
 
+    #[tactic(auto, using(crate::specs::Laws::ProductLaws::reply_fits))]
     fn reply(&self, c: u32, w: u32) -> Option<u32> {
         let p = self.place(c)?;
         let met = met(self.left.value(p.row), self.right.value(p.column), w)?;
@@ -128,23 +130,17 @@ fn met(a: u32, b: u32, w: u32) -> Option<Meeting>
     if w >= v {
         return None;
     }
-    for left in 0..a {
-        let right = counterpart(a, b, v ^ w, left);
-        if right < b {
-            return Some(Meeting { left, right });
-        }
-    }
-    None
+    (0..a)
+        .map(|left| Meeting {
+            left,
+            right: counterpart(a, b, v ^ w, left),
+        })
+        .find(|m| m.right < b)
 }
 
-// The number that b has to come to when a comes to left, for a product that is to change by gap.
+// The number that b has to come to when a comes to left, for a product that is to change by gap; b itself where a stays.
 fn counterpart(a: u32, b: u32, gap: u32, left: u32) -> u32
-    requires { left < a }
     ensures { result ≡ b ⊕ (gap ⊗ inverse_of (a ⊕ left)) }
 {
-    match nimbers::inverse(a ^ left) {
-        Some(i) => b ^ nimbers::product(gap, i),
-        // Not met: left differs from a.
-        None => b,
-    }
+    nimbers::inverse(a ^ left).map_or(b, |i| b ^ nimbers::product(gap, i))
 }

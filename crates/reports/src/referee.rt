@@ -1,12 +1,13 @@
 // A referee: a transcript and the table on which it is played.
+use piles::Pile;
 use tables::table::Table;
 use transcripts::body::Body;
-use valued::ValuedPile;
+use valued::Valued;
 
 mod steps;
 
 #[derive(Drop)]
 pub struct Referee<'a> {
     body: Body<'a>,
-    table: Table<ValuedPile>,
+    table: Table<Valued<Pile>>,
 }

@@ -1,21 +1,18 @@
-// A pile that keeps the values of its cells.
+// A game that keeps the values of its cells.
 #![tactic(auto)]
 
 ghost use Rattle.std.specs.Prelude.{◌≡◌, ℕ, IfOk, vec_len, slice_index};
-ghost use Rattle.piles.specs.Numbered.{pile_of};
-ghost use Rattle.piles.specs.Laws.PileLaws.{pile_lawful, pile_replies};
 
 use games::Game;
-use piles::Pile;
 use std::alloc::{AllocError, Global};
 
-// A pile and the values of its cells; off the board the value is 0.
+// A game and the values of its cells; off the board the value is 0.
 #[derive(Drop)]
-pub struct ValuedPile {
-    game: Pile,
+pub struct Valued<G: Game> {
+    game: G,
     values: Vec<u32>,
-    ghost whole: { vec_len values ≡ (pile_of game).cells },
-    ghost right: { (c : ℕ) → slice_index values.items c ≡ (pile_of game).worth c },
+    ghost whole: { vec_len values ≡ (G.Game.rules game).cells },
+    ghost right: { (c : ℕ) → slice_index values.items c ≡ (G.Game.rules game).worth c },
 }
 
 // The values of all cells of a game.
@@ -23,29 +20,25 @@ pub fn values_of<G: Game>(heap: Global, game: &G) -> Result<Vec<u32>, AllocError
     ensures whole { IfOk result (λ v. vec_len v ≡ (G.Game.rules game.now).cells) }
     ensures right { IfOk result (λ v. (c : ℕ) → slice_index v.items c ≡ (G.Game.rules game.now).worth c) }
 {
-    let mut values = Vec::new(heap);
-    for c in 0..game.size() {
-        values.push(game.value(c))?;
-    }
-    Ok(values)
+    (0..game.size()).map(|c| game.value(c)).collect(heap)
 }
 
-impl ValuedPile {
+impl<G: Game + Drop> Valued<G> {
     // The same game; the value of every cell is found once.
-    pub fn new(heap: Global, game: Pile) -> Result<ValuedPile, AllocError>
-        ensures { IfOk result (λ v. pile_of v.game ≡ pile_of game) }
+    pub fn new(heap: Global, game: G) -> Result<Valued<G>, AllocError>
+        ensures { IfOk result (λ v. v.game ≡ game) }
     {
         let values = values_of(heap, &game)?;
-        Ok(ValuedPile { game, values })
+        Ok(Valued { game, values })
     }
 }
 
-impl Game for ValuedPile {
-    ghost rules = { λ v. pile_of v.game };
+impl<G: Game> Game for Valued<G> {
+    ghost rules = { λ v. G.Game.rules v.game };
 
-    ghost lawful = { λ v. pile_lawful v.game };
+    ghost lawful = { λ v. G.Game.lawful v.game };
 
-    ghost replies = { λ v. pile_replies v.game };
+    ghost replies = { λ v. G.Game.replies v.game };
 
     fn size(&self) -> u32 {
         self.values.len() as u32
@@ -69,5 +62,23 @@ impl Game for ValuedPile {
 
     fn reply(&self, c: u32, w: u32) -> Option<u32> {
         self.game.reply(c, w)
+    }
+}
+
+#[cfg(test)]
+mod tests {
+    use super::*;
+    use games::Ruler;
+    use std::test::Fail;
+
+    #[test]
+    fn a_row_keeps_its_values(rt: HostRuntime) -> Result<(), Fail> {
+        let ruler = Valued::new(rt.alloc(), Ruler::new(6))?;
+        assert_eq!(rt; ruler.size(), 6);
+        assert_eq!(rt; ruler.count(5), 6);
+        assert_eq!(rt; ruler.value(3), 4);
+        assert_eq!(rt; ruler.value(5), 2);
+        assert_eq!(rt; ruler.value(6), 0);
+        Ok(())
     }
 }

@@ -4,7 +4,8 @@ use Rattle.std.proofs.Math.Path.{sym, ap}
 use Rattle.std.proofs.Common.{◌∙◌, subst, inl, inr, mod-lt, div-lt_iff_lt-mul, le-div_iff_mul-le, mul-zero, zero-mul, lt_trans, arith}
 use Rattle.std.proofs.Math.Decide.{dec_lt}
 use Rattle.std.proofs.Math.Nat.{div-add-mod', mul-le-mul_right}
-use borrow.Author.Tests.{lt-ltb, le-ltb, ltb-true, ltb-false, leb-true, clash}
+use borrow.Author.Tests.{lt-ltb, le-ltb, ltb-true, ltb-false, leb-true}
+use Rattle.std.proofs.lemmas.Bool.{and_parts}
 use Rattle.std.proofs.Math.Arith.{digits_lt, digits_div, digits_mod}
 use Rattle.std.specs.Int.Bits.{xor_self}
 use Rattle.std.proofs.lemmas.Nat.{mul-le, xor_comm}
@@ -26,17 +27,18 @@ use Rattle.nimber_field.proofs.Products.{
 use Rattle.games.specs.Rules.{Rules, sum_held, rest, IsRest, Lawful, FreeReply, Replies}
 use Rattle.games.specs.Laws.Sums.{sum_same, sum_whole}
 use Rattle.games.specs.Laws.RowLaws.{First, first_exists}
-use Rattle.piles.specs.Layers.{limited, partner, smallest_met, paired, met_answer, crossed, multiplies, product, TartanTheorem}
+use Rattle.piles.specs.Layers.{limited, partner, smallest_met, paired, met_answer, crossed, multiplies, product, Nothing, TartanTheorem}
 use Rattle.piles.specs.Laws.Blocks.{sum_crossed, held_sum_small}
 use Rattle.piles.specs.Laws.MixLaws.{limited_lawful, limited_replies}
-
-both_true : (p q : Bool) → p && q ≡ true → (p ≡ true) × (q ≡ true)
-both_true true q e = (refl, e)
-both_true false q e = absurd (clash e)
 
 -- the rest of a move is a 32-bit number
 rest_small : (G : Rules) → Lawful G → (c i : ℕ) → Small (rest G c i)
 rest_small G P c i = held_sum_small c (G.holds c i) G.worth P.nimber
+
+-- there is nothing below a product with 0
+some_factor : (m a b : ℕ) → m < a * b → 0 < b
+some_factor m a zero h = absurd (omega (arith, subst (λ n. m < n) (mul-zero a) h))
+some_factor m a (suc b) h = omega arith
 
 -- a cell with no moves and value 0
 nothing : (G : Rules) (c : ℕ) → G.count c ≡ 0 → G.worth c ≡ 0 → Missing (IsRest G c) (G.worth c)
@@ -93,7 +95,7 @@ module _ (A B : Rules) (P : Lawful A) (Q : Lawful B) where
     highest : (d : ℕ) → turned d ≡ true → d ≤ cell
     unfolding turned
     highest d e =
-        let h = both_true (A.holds x i (d / B.cells)) (B.holds y j (d % B.cells)) e in
+        let h = and_parts (A.holds x i (d / B.cells)) (B.holds y j (d % B.cells)) e in
         let l = mul-le-mul_right B.cells (P.not_above x i (d / B.cells) h.0) in
         omega (arith, l, Q.not_above y j (d % B.cells) h.1, div-add-mod' d B.cells)
 
@@ -147,11 +149,7 @@ module _ (A B : Rules) (P : Lawful A) (Q : Lawful B) where
   }
     where
       some : 0 < B.count y
-      some = positive (B.count y) refl
-        where
-          positive : (k : ℕ) → B.count y ≡ k → 0 < k
-          positive zero e = absurd (omega (arith, subst (λ n. m < n) (ap (λ n. A.count x * n) e ∙ mul-zero (A.count x)) h))
-          positive (suc k) e = omega arith
+      some = some_factor m (A.count x) (B.count y) h
 
   cell_count : (x y : ℕ) → y < B.cells → X.count (x * B.cells + y) ≡ A.count x * B.count y
   cell_count x y hy = λ k. A.count (digits_div x hy k) * B.count (digits_mod x hy k)
@@ -211,11 +209,7 @@ module _ (A B : Rules) (P : Lawful A) (Q : Lawful B) where
   cell_is c = div-add-mod' c B.cells
 
   has_columns : (c : ℕ) → c < A.cells * B.cells → 0 < B.cells
-  has_columns c h = positive B.cells refl
-    where
-      positive : (n : ℕ) → B.cells ≡ n → 0 < n
-      positive zero e = absurd (omega (arith, subst (λ n. c < n) (ap (λ n. A.cells * n) e ∙ mul-zero A.cells) h))
-      positive (suc n) e = omega arith
+  has_columns c h = some_factor c A.cells B.cells h
 
   row_on : (c : ℕ) → c < A.cells * B.cells → c / B.cells < A.cells
   row_on c h = (div-lt_iff_lt-mul (has_columns c h)).1 h
@@ -261,7 +255,7 @@ module _ (A B : Rules) (P : Lawful A) (Q : Lawful B) where
   crossed_not_above c i d e =
       let m = i / B.count (c % B.cells) in
       let n = i % B.count (c % B.cells) in
-      let h = both_true (A.holds (c / B.cells) m (d / B.cells)) (B.holds (c % B.cells) n (d % B.cells)) (both_true (nat_lt i (X.count c)) _ e).1 in
+      let h = and_parts (A.holds (c / B.cells) m (d / B.cells)) (B.holds (c % B.cells) n (d % B.cells)) (and_parts (nat_lt i (X.count c)) _ e).1 in
       let rows = mul-le-mul_right B.cells (P.not_above (c / B.cells) m (d / B.cells) h.0) in
       omega (arith, rows, Q.not_above (c % B.cells) n (d % B.cells) h.1, cell_is c, cell_is d)
 
@@ -272,7 +266,7 @@ module _ (A B : Rules) (P : Lawful A) (Q : Lawful B) where
     count_bound = λ c. mul-le _ _ _ _ (P.count_bound (c / B.cells)) (Q.count_bound (c % B.cells));
     count_off = crossed_count_off;
     worth_off = crossed_worth_off;
-    numbered = λ c i d e. ltb-true i (X.count c) (both_true _ _ e).0;
+    numbered = λ c i d e. ltb-true i (X.count c) (and_parts _ _ e).0;
     own = crossed_own;
     not_above = crossed_not_above;
     nimber = λ c. product_small (A.worth (c / B.cells)) (B.worth (c % B.cells));
@@ -366,7 +360,7 @@ tartan_theorem A B P Q = at (multiplies A B)
 
 within : (A B : Rules) → multiplies A B ≡ true → (A.cells * B.cells ≤ 4096) × (A.ceiling * B.ceiling ≤ 4194303)
 within A B e =
-    let h = both_true (nat_le (A.cells * B.cells) 4096) (nat_le (A.ceiling * B.ceiling) 4194303) e in
+    let h = and_parts (nat_le (A.cells * B.cells) 4096) (nat_le (A.ceiling * B.ceiling) 4194303) e in
     (leb-true _ _ h.0, leb-true _ _ h.1)
 
 pub product_lawful : (A B : Rules) → Lawful A → Lawful B → Lawful (product A B)
@@ -376,27 +370,28 @@ product_lawful A B P Q =
 pub product_replies : (A B : Rules) → Lawful A → Lawful B → Replies A → Replies B → Replies (product A B)
 product_replies A B P Q R S = limited_replies (multiplies A B) (crossed A B) (λ e. crossed_replies A B P Q R S)
 
--- off the board a move holds nothing
-pub holds_off : (G : Rules) → Lawful G → (c i d : ℕ) → G.cells ≤ c → false ≡ G.holds c i d
-holds_off G P c i d h = at (G.holds c i d) refl
+-- off the board a game has nothing
+pub nothing_off : (G : Rules) → Lawful G → Replies G → (c : ℕ) → G.cells ≤ c → Nothing G c
+nothing_off G P R c off = record {
+  count = P.count_off c off;
+  holds = λ i d. no_coin i d (G.holds c i d) refl;
+  worth = P.worth_off c off;
+  answer = λ w. no_reply w (G.answer c w) (R c w);
+}
   where
-    at : (b : Bool) → G.holds c i d ≡ b → false ≡ b
-    at true e = absurd (omega (arith, P.numbered c i d e, P.count_off c h))
-    at false e = refl
+    no_coin : (i d : ℕ) (b : Bool) → G.holds c i d ≡ b → b ≡ false
+    no_coin i d true e = absurd (omega (arith, P.numbered c i d e, P.count_off c off))
+    no_coin i d false e = refl
+
+    no_reply : (w : ℕ) (r : Option ℕ) → FreeReply G c w r → r ≡ None
+    no_reply w None f = refl
+    no_reply w (Some i) f = absurd (omega (arith, f.0, P.worth_off c off))
 
 -- the moves of a product with cells can be counted
 pub moves_fit : (A B : Rules) → Lawful A → Lawful B → multiplies A B ≡ true → (x y m n : ℕ) → m ≡ A.count x → n ≡ B.count y → m * n < 2 ^ 32
 moves_fit A B P Q e x y m n p q =
     subst (λ k. k < 2 ^ 32) (λ i. sym p i * sym q i)
     (omega (arith, mul-le (A.count x) (B.count y) A.ceiling B.ceiling (P.count_bound x) (Q.count_bound y), (within A B e).1))
-
--- off the board there is no reply
-pub answer_off : (G : Rules) → Lawful G → Replies G → (c w : ℕ) → G.cells ≤ c → None ≡ G.answer c w
-answer_off G P R c w h = at (G.answer c w) (R c w)
-  where
-    at : (r : Option ℕ) → FreeReply G c w r → None ≡ r
-    at None f = refl
-    at (Some i) f = absurd (omega (arith, f.0, P.worth_off c h))
 
 reply_numbered : (G : Rules) → Replies G → (c w i : ℕ) → G.answer c w ≡ Some i → i < G.count c
 reply_numbered G R c w i e = (subst (FreeReply G c w) e (R c w)).1

@@ -18,7 +18,7 @@ use std::alloc::{AllocError, Global};
 use tables::table::Table;
 use transcripts::fault::Fault;
 use transcripts::unread::Unread;
-use valued::ValuedPile;
+use valued::Valued;
 
 impl<'a> Referee<'a> {
     // A referee at the first record of a transcript, with a new table of the head's pile.
@@ -27,7 +27,7 @@ impl<'a> Referee<'a> {
         ensures game { IfOk result (λ x. pile_of x.table.game.game ≡ file_game transcript.entry.file.now) }
         ensures run { IfOk result (λ x. Stands (file_game transcript.entry.file.now) [] x.table.kept) }
     {
-        let game = ValuedPile::new(heap, board(transcript.check()))?;
+        let game = Valued::new(heap, board(transcript.check()))?;
         Ok(Referee {
             body: transcript.into_body(),
             table: Table::new(game),
