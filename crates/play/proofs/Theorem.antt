@@ -1,17 +1,19 @@
 -- A position is lost exactly when its value is 0. Assumes nothing.
 use mathlib.Core.Path.{◌≡◌, refl, sym, ap, ◌∙◌, subst}
-use mathlib.Core.Bool.{Bool, true, false, cond}
+use mathlib.Core.Bool.{Bool, true, false, cond, not}
 use mathlib.Core.Logic.{◌≢◌}
 use Prim.Native.Nat.{ℕ, zero, suc, ◌+◌, ◌^◌, ◌<◌}
 use native.Mathlib.Decide.{ℕ_discrete}
 use native.Mathlib.Nat.{two-pow-succ}
 use native.Mathlib.Omega.{arith}
+use borrow.Author.Tests.{eqb-true, eqb-false}
+use lib.Dec.{eqb}
 use lib.Bits.{xor_comm, xor_self, xor_zero_l}
 use Rattle.nimber_field.specs.Tower.{differ}
 use Rattle.nimber_field.specs.Nimber.{◌⊕◌}
 use Rattle.nimber_field.proofs.Products.{xor_twice, xor_equal}
 use Rattle.games.specs.Rules.{Rules, Lawful, rest}
-use Rattle.play.specs.Play.{Coins, after, Legal, Won, wins, Lost, loses, position_value, Decided}
+use Rattle.play.specs.Play.{Coins, after, Legal, Won, wins, Lost, loses, position_value, Decided, Decides}
 use Rattle.play.proofs.Turning.{on_board, value_after, Lowers, lowers}
 
 -- the heads read as binary digits
@@ -131,10 +133,14 @@ mutual
   neither : (G : Rules) {u : Coins} → Lost G u → Won G u → ⊥
   neither G (loses f) (wins c i l x) = not_both G (f c i l) x
 
-pub decided : (G : Rules) → Lawful G → (u : Coins) (v : ℕ) → position_value G u ≡ v → (b : Bool) → ((b ≡ true → v ≢ 0) × (b ≡ false → v ≡ 0)) → Decided b G u
-decided G P u v e true h =
-    let w = won_of G P u (λ z. h.0 refl (sym e ∙ z)) in
-    (w, λ l. not_both G w l)
-decided G P u v e false h =
-    let l = lost_of G P u (e ∙ h.1 refl) in
-    (l, λ w. not_both G w l)
+-- the positions of a value are won where it is not 0, and lost at 0
+pub decides : (v : ℕ) → Decides (not (eqb v 0)) v
+decides v G P u e = at (eqb v 0) refl
+  where
+    at : (b : Bool) → eqb v 0 ≡ b → Decided (not b) G u
+    at true z =
+        let l = lost_of G P u (e ∙ eqb-true v 0 z) in
+        (l, λ w. not_both G w l)
+    at false n =
+        let w = won_of G P u (λ z. eqb-false v 0 n (sym e ∙ z)) in
+        (w, λ l. not_both G w l)

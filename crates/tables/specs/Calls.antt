@@ -1,5 +1,5 @@
 -- What a table answers to a call, and what it is afterwards. Assumes nothing.
-use Rattle.std.specs.Prelude.{◌≡◌, ℕ, Bool, true, false, cond, ◌&&◌, Some, None, Ok, Err, Option, Result, ◌==◌, nat_lt}
+use Rattle.std.specs.Prelude.{◌≡◌, ℕ, ◌<◌, Bool, true, false, cond, ◌&&◌, Some, None, Ok, Err, Option, Result, ◌==◌, nat_lt}
 use Rattle.std.specs.Option.{option_map}
 use Rattle.nimber_field.specs.Nimber.{◌⊕◌}
 use Rattle.games.specs.Rules.{Rules}
@@ -17,6 +17,7 @@ use Rattle.tables.specs.declared.calls.Call.TheVariants.{Lay, Begin, Turn, Weigh
 use Rattle.tables.specs.declared.calls.Answer.{Answer}
 use Rattle.tables.specs.declared.calls.Answer.TheVariants.{Laid, Begun, Turned, Worth, Advice}
 use Rattle.tables.specs.declared.table.Record.{Record}
+use Rattle.tables.specs.declared.table.Table.{Table}
 use Rattle.tables.specs.declared.calls.Refusal.{Refusal}
 use Rattle.tables.specs.declared.calls.Refusal.TheVariants.{NoCells, NotNow, OffBoard, Heads, Tails, NoMove}
 
@@ -50,9 +51,18 @@ can_move G u = any G.cells (λ c. u c && nat_lt 0 (G.count c))
 abbrev pub play_state : Rules → Coins → State
 play_state G u = cond (can_move G u) Playing Over
 
+-- a record that comes to a state
+abbrev pub in_state : Record → State → Record
+in_state k s = record { position = k.position; state = s; side = k.side }
+
 -- whether c shows heads and its value falls when v is added
 abbrev pub falls : Rules → Coins → (v c : ℕ) → Bool
 falls G u v c = u c && nat_lt (G.worth c ⊕ v) (G.worth c)
+
+-- the lowest of the numbers below n that pass the test, or none where none passes
+abbrev pub LowestOf : ℕ → (ℕ → Bool) → Option ℕ → Type 0
+LowestOf n p None = (k : ℕ) → k < n → p k ≡ false
+LowestOf n p (Some c) = c ≡ first n p
 
 -- the lowest head whose value falls when the value of the position is added
 abbrev pub advised_cell : Rules → Coins → ℕ
@@ -165,3 +175,9 @@ pub record Follows (G : Rules) (call : Call) (r : Reply) (before after : Record)
   pub state : after.state ≡ state_after before.state r
   pub side : after.side ≡ side_after before.side r
   pub same : changes call r ≡ false → after ≡ before
+
+-- a call that the state allows was done: the game stays, the reply is the right one, and what is kept follows from it
+pub record DoesAllowed {X : Type 0} (rules : X → Rules) (call : Call) (r : Reply) (before now : Table X) : Type 0 where
+  pub game : now.game ≡ before.game
+  pub answer : r ≡ allowed_reply (rules before.game) (coins before.kept.position) call
+  pub after : Follows (rules before.game) call r before.kept now.kept

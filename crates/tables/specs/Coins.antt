@@ -11,10 +11,6 @@ coins p c = slice_index p.words (c / 32) / 2 ^ (c % 32) % 2 == 1
 abbrev pub only : ℕ → ℕ → Bool
 only c d = nat_lt c 4096 && d == c
 
--- the one coin d, where a set holds it
-abbrev pub one_held : (ℕ → Bool) → ℕ → ℕ → Bool
-one_held set d e = set d && only d e
-
 -- the coins below n that a set holds
 abbrev pub held_below : ℕ → (ℕ → Bool) → ℕ → Bool
 held_below n set e = nat_lt e n && set e

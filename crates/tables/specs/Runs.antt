@@ -5,7 +5,7 @@ use Rattle.games.specs.Rules.{Rules}
 use Rattle.piles.specs.Layers.{TartanTheorem}
 use Rattle.play.specs.Play.{Coins, after, Legal, Won, Lost}
 use Rattle.tables.specs.Coins.{coins}
-use Rattle.tables.specs.Calls.{Reply, touched, play_state, advice, reply_to}
+use Rattle.tables.specs.Calls.{Reply, touched, play_state, advice, reply_to, Follows}
 use Rattle.tables.specs.declared.calls.Move.{Move}
 use Rattle.tables.specs.declared.calls.State.{State}
 use Rattle.tables.specs.declared.calls.State.TheVariants.{Setting, Playing, Over}
@@ -15,6 +15,7 @@ use Rattle.tables.specs.declared.calls.Call.{Call}
 use Rattle.tables.specs.declared.calls.Call.TheVariants.{Lay, Begin, Turn, Weigh, Value, Advise}
 use Rattle.tables.specs.declared.calls.Answer.TheVariants.{Advice}
 use Rattle.tables.specs.declared.table.Record.{Record}
+use Rattle.tables.specs.declared.table.Table.{Table}
 
 -- a call with its reply
 pub record Entry : Type 0 where
@@ -92,6 +93,13 @@ pub record Stands (G : Rules) (h : Run) (k : Record) : Type 0 where
 -- a call carries the laws of a run on: they hold with it after any run with which they held before it
 abbrev pub Carries : Rules → Call → Reply → Record → Record → Type 0
 Carries G call r before after = (h : Run) → Stands G h before → Stands G (record { call = call; reply = r } ∷ h) after
+
+-- a call was done on a table: the game stays, the reply is the right one, what is kept follows from it, and the laws of runs are carried on
+pub record Does {X : Type 0} (rules : X → Rules) (call : Call) (r : Reply) (before now : Table X) : Type 0 where
+  pub game : now.game ≡ before.game
+  pub answer : r ≡ reply_to (rules before.game) (coins before.kept.position) before.kept.state call
+  pub after : Follows (rules before.game) call r before.kept now.kept
+  pub run : Carries (rules before.game) call r before.kept now.kept
 
 -- each reply of a run is the one that the table gives after what came before
 unfoldable pub Told : Rules → Run → Type 0

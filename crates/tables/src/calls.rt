@@ -13,8 +13,8 @@ pub enum State {
 // The side to move.
 #[derive(Clone, Copy, Debug, PartialEq, Eq)]
 pub enum Side {
-    First,
-    Second,
+    First = 1,
+    Second = 2,
 }
 
 impl Side {
@@ -31,10 +31,7 @@ impl Side {
     pub fn number(self) -> u32
         ensures { result ≡ side_number self }
     {
-        match self {
-            Side::First => 1,
-            Side::Second => 2,
-        }
+        self as u32
     }
 }
 
@@ -74,25 +71,18 @@ pub enum Answer {
 
 #[derive(Clone, Copy, Debug, PartialEq, Eq)]
 pub enum Refusal {
-    NoCells,
-    NotNow,
-    OffBoard,
-    Heads,
-    Tails,
-    NoMove,
+    NoCells = 1,
+    NotNow = 2,
+    OffBoard = 3,
+    Heads = 4,
+    Tails = 5,
+    NoMove = 6,
 }
 
 impl Refusal {
     pub fn number(self) -> u32
         ensures { result ≡ refusal_number self }
     {
-        match self {
-            Refusal::NoCells => 1,
-            Refusal::NotNow => 2,
-            Refusal::OffBoard => 3,
-            Refusal::Heads => 4,
-            Refusal::Tails => 5,
-            Refusal::NoMove => 6,
-        }
+        self as u32
     }
 }

@@ -1,8 +1,8 @@
 // A position: 4,096 coins, each heads or tails.
-ghost use Rattle.std.specs.Prelude.{◌≡◌, ◌&&◌, if◌then◌else◌, nat_lt};
+ghost use Rattle.std.specs.Prelude.{◌≡◌};
 ghost use Rattle.play.specs.Play.{after, position_value, turned};
 ghost use Rattle.tables.specs.Calls.{can_move};
-ghost use Rattle.tables.specs.Coins.{all_tails, coins, one_held, only};
+ghost use Rattle.tables.specs.Coins.{all_tails, coins, only};
 
 pub mod trial;
 
@@ -43,18 +43,10 @@ impl Position {
     pub fn sum<G: Game>(&self, game: &G) -> u32
         ensures { result ≡ position_value (G.Game.rules game.now) (coins self.now) }
     {
-        let mut sum = 0;
-        for c in 0..game.size() {
-            sum ^= self.share(game, c);
-        }
-        sum
-    }
-
-    // What c adds to the sum.
-    fn share<G: Game>(&self, game: &G, c: u32) -> u32
-        ensures { result ≡ (if coins self.now c then (G.Game.rules game.now).worth c else 0) }
-    {
-        if self.heads(c) { game.value(c) } else { 0 }
+        (0..game.size())
+            .filter(|c| self.heads(*c))
+            .map(|c| game.value(c))
+            .fold(0, |sum, value| sum ^ value)
     }
 
     // Turns the coins of a move.
@@ -63,16 +55,9 @@ impl Position {
     {
         let end = m.cell.saturating_add(1).min(game.size());
         for d in 0..end {
-            self.turn_one(game, m, d);
-        }
-    }
-
-    // Turns the coin on d if the move holds it.
-    fn turn_one<G: Game>(&mut self, game: &G, m: Move, d: u32)
-        ensures { coins self.new ≡ turned (coins self.old) (one_held ((G.Game.rules game.now).holds m.cell m.number) d) }
-    {
-        if game.turns(m.cell, m.number, d) {
-            self.flip(d);
+            if game.turns(m.cell, m.number, d) {
+                self.flip(d);
+            }
         }
     }
 
@@ -80,17 +65,6 @@ impl Position {
     pub fn can_move<G: Game>(&self, game: &G) -> bool
         ensures { result ≡ can_move (G.Game.rules game.now) (coins self.now) }
     {
-        for c in 0..game.size() {
-            if self.has_move_at(game, c) {
-                return true;
-            }
-        }
-        false
-    }
-
-    fn has_move_at<G: Game>(&self, game: &G, c: u32) -> bool
-        ensures { result ≡ (coins self.now c && nat_lt 0 ((G.Game.rules game.now).count c)) }
-    {
-        self.heads(c) && game.count(c) > 0
+        (0..game.size()).any(|c| self.heads(c) && game.count(c) > 0)
     }
 }

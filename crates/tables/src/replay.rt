@@ -17,6 +17,7 @@ pub fn replay<G: Game + Drop>(
 {
     let mut table = Table::new(game);
     let mut replies = Vec::new(heap);
+    // A loop: of a chain whose closure changes the table, nothing is proved.
     for call in calls {
         replies.push(table.call(*call))?;
     }

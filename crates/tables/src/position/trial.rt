@@ -9,7 +9,7 @@ use games::Game;
 
 pub struct Trial<'a> {
     position: &'a mut Position,
-    saved: [u32; 128],
+    saved: Position,
 }
 
 impl<'a> Trial<'a> {
@@ -17,9 +17,9 @@ impl<'a> Trial<'a> {
     pub fn new(position: &'a mut Position) -> Trial<'a>
         ensures lent { result.position.ghost_name ≡ position.entry.ghost_name }
         ensures starts { result.position.now ≡ position.old }
-        ensures saved { result.saved ≡ position.old.words }
+        ensures saved { result.saved ≡ position.old }
     {
-        let saved = position.words;
+        let saved = *position;
         Trial { position, saved }
     }
 
@@ -43,10 +43,9 @@ impl<'a> Trial<'a> {
 impl Drop for Trial<'_> {
     // Puts back every coin.
     fn drop(self)
-        ensures { self.exit.0.now.words ≡ self.entry.saved }
+        ensures { self.exit.0.now ≡ self.entry.saved }
     {
-        let saved = self.saved;
-        self.position.words = saved;
+        *self.position = self.saved;
         let Trial {
             position: _,
             saved: _,

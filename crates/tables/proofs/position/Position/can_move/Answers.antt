@@ -1,22 +1,13 @@
-use Rattle.std.proofs.Common.{◌&&◌, ltb, sym, refl, ap, ◌∙◌, arith}
-use Rattle.games.specs.TakeValues.{any}
+use Rattle.std.proofs.Common.{◌≡◌, ℕ, Bool, ◌&&◌, ltb, true, false, refl, arith, rules, tests}
+use Rattle.std.proofs.lemmas.Iterator.{YieldsList-from_range, cases_from_any}
 use Rattle.tables.specs.Coins.{coins}
-use Rattle.tables.proofs.Turned.{any_more, any_at}
+use Rattle.tables.proofs.Ranges.{any_passed}
 use Rattle.tables.proofs.position.Position.can_move.Goals as goal
-
-pub loop-c-init : goal.loop-c-init
-unfolding any
-loop-c-init g c = refl
-
-pub loop-c-preserved : goal.loop-c-preserved
-loop-c-preserved g c = any_more c.loop-c.c _ c.loop-c.invariant (sym c.has_move_at.ensures ∙ c.if-has_move_at.false)
-
-pub returns-then-has_move_at : goal.returns-then-has_move_at
-returns-then-has_move_at g c =
-    sym (any_at _ _ c.loop-c.c (omega (arith, c.loop-c-test.true, c.size-c-end.ensures)) (sym c.has_move_at.ensures ∙ c.if-has_move_at.true))
 
 pub returns : goal.returns
 returns g c =
-    sym c.loop-c.invariant
-    ∙ ap (λ n. any n (λ d. coins c.args.self.now d && ltb 0 ((g.G.Game.rules c.args.game.now).count d)))
-    (omega (arith, c.loop-c-test.false, c.loop-c.auto.c-end, c.size-c-end.ensures))
+    let G = g.G.Game.rules c.args.game.now in
+    let p : ℕ → Bool = λ d. coins c.args.self.now d && ltb 0 (G.count d) in
+    any_passed G.cells c.size.result p c.any.result c.size.ensures
+    (cases_from_any _ _ c.any.result (λ d. p d ≡ true) (λ d. p d ≡ false) c.any.ensures.ran (YieldsList-from_range 0 c.size.result c.size.result refl (omega arith))
+    (λ d q k. search (rules, tests)) (λ d q k. search (rules, tests)))

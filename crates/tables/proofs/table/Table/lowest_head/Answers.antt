@@ -1,8 +1,14 @@
-use Rattle.std.proofs.Common.{sym, ◌∙◌, arith}
-use Rattle.games.specs.Laws.RowLaws.{first_is}
+use Rattle.std.proofs.Common.{◌≡◌, true, false, rules, tests}
+use Rattle.std.proofs.lemmas.Iterator.{first_from_Range}
+use Rattle.tables.specs.Calls.{falls}
+use Rattle.tables.specs.Coins.{coins}
+use Rattle.tables.proofs.Ranges.{first_found}
 use Rattle.tables.proofs.table.Table.lowest_head.Goals as goal
 
-pub returns-then-is_lower : goal.returns-then-is_lower
-returns-then-is_lower g c =
-    sym (first_is _ _ c.loop-c.c (omega (arith, c.loop-c-test.true, c.size-c-end.ensures)) (sym c.is_lower.ensures ∙ c.if-is_lower.true)
-    c.loop-c.invariant)
+pub returns : goal.returns
+returns g c =
+    let G = g.G.Game.rules c.args.self.now.game in
+    let p = falls G (coins c.args.self.now.kept.position) c.args.v in
+    first_found G.cells c.size.result p c.find.result c.size.ensures
+    (first_from_Range _ _ _ c.find.result (λ i. p i ≡ true) (λ i. p i ≡ false) c.find.ensures.ran
+    (λ x q k. search (rules, tests)) (λ x q k. search (rules, tests)))
