@@ -15,13 +15,17 @@ abbrev pub byte_fault_at : ByteFault → At
 byte_fault_at (CutShort at) = at
 byte_fault_at (TooLong at) = at
 
--- the number in the two bytes at a place, the low one first
-abbrev pub two_at : List ℕ → ℕ → ℕ
-two_at bytes p = slice_index bytes p + slice_index bytes (p + 1) * 256
+-- the number in at most four bytes, the low one first; a byte that is not there counts 0
+abbrev pub number_of : List ℕ → ℕ
+number_of bytes = slice_index bytes 0 + slice_index bytes 1 * 256 + slice_index bytes 2 * 65536 + slice_index bytes 3 * 16777216
 
--- the number in the four bytes at a place, the low one first
+-- the number in the two bytes at a place
+abbrev pub two_at : List ℕ → ℕ → ℕ
+two_at bytes p = number_of (take 2 (drop p bytes))
+
+-- the number in the four bytes at a place
 abbrev pub four_at : List ℕ → ℕ → ℕ
-four_at bytes p = slice_index bytes p + slice_index bytes (p + 1) * 256 + slice_index bytes (p + 2) * 65536 + slice_index bytes (p + 3) * 16777216
+four_at bytes p = number_of (take 4 (drop p bytes))
 
 -- a record begins with the length of its body
 abbrev pub body_length_at : List ℕ → ℕ → ℕ
@@ -53,10 +57,13 @@ abbrev pub as_framed : Result Frame ByteFault → Result Framed ByteFault
 as_framed (Ok f) = Ok (framed f)
 as_framed (Err e) = Err e
 
+-- the record in the bytes at a place
+abbrev pub frame_of : List ℕ → ℕ → Framed
+frame_of file p = record { kind = kind_at file p; body = body_at file p }
+
 -- the record at a place, or that it is cut short
 abbrev pub frame_at : List ℕ → At → Result Framed ByteFault
-frame_at file at =
-    cond (cut_short file at.place) (Err (CutShort at)) (Ok (record { kind = kind_at file at.place; body = body_at file at.place }))
+frame_at file at = cond (cut_short file at.place) (Err (CutShort at)) (Ok (frame_of file at.place))
 
 -- a file has at most 65,535 bytes
 abbrev pub too_long : List ℕ → Bool

@@ -1,7 +1,9 @@
 -- A transcript as records. Assumes nothing.
-use Rattle.std.specs.Prelude.{ℕ, ◌+◌, Bool, false, cond, ◌||◌, List, [], ◌∷◌, length, Some, None, Ok, Err, Option, Result, ◌==◌, nat_le, nat_lt, slice_index}
+use Rattle.std.specs.Prelude.{ℕ, ◌+◌, Bool, false, cond, ◌++◌, codes, ◌||◌, List, [], ◌∷◌, length, Some, None, Ok, Err, Option, Result, ◌==◌, nat_le, nat_lt}
+use Rattle.std.specs.Fmt.{decimal}
+use Rattle.std.specs.List.{list_any}
+use Rattle.std.specs.Option.{ok_or}
 use Rattle.games.specs.Rules.{Rules}
-use Rattle.games.specs.TakeValues.{any}
 use Rattle.piles.specs.Numbered.{numbered}
 use Rattle.tables.specs.declared.calls.Move.{Move}
 use Rattle.tables.specs.declared.calls.Call as calls
@@ -12,6 +14,7 @@ use Rattle.records.specs.declared.record.RecordFault.{RecordFault}
 use Rattle.records.specs.declared.record.RecordFault.TheVariants.{Bytes, UnknownKind, WrongLength, BadText}
 use Rattle.records.specs.declared.record.Kind.{Kind}
 use Rattle.records.specs.declared.record.Kind.TheVariants.{Head, Lay, Begin, Turn, Advise, Remark, End}
+use Rattle.records.specs.declared.record.UnknownKind as unknown
 use Rattle.records.specs.declared.record.Head as heads
 use Rattle.records.specs.declared.record.Record as records
 
@@ -47,6 +50,14 @@ among (k ∷ ks) n = cond (n == kind_number k) (Some k) (among ks n)
 -- the kind of a number
 abbrev pub kind_of : ℕ → Option Kind
 kind_of n = among (Head ∷ Lay ∷ Begin ∷ Turn ∷ Advise ∷ Remark ∷ End ∷ []) n
+
+-- the kind of a number, or that no kind has it
+abbrev pub kind_or_unknown : ℕ → Result Kind unknown.UnknownKind
+kind_or_unknown n = ok_or (kind_of n) (record { 0 = n })
+
+-- what is printed of a number that no kind has
+abbrev pub unknown_kind_text : unknown.UnknownKind → List ℕ
+unknown_kind_text e = codes "no kind of record has the number " ++ decimal e.0
 
 -- whether a body of that length fits the kind
 abbrev pub fits_kind : Kind → ℕ → Bool
@@ -146,7 +157,7 @@ bad_byte b = nat_lt b 32 || nat_lt 126 b
 
 -- whether a text has such a byte
 abbrev pub bad_text : List ℕ → Bool
-bad_text t = any (length t) (λ k. bad_byte (slice_index t k))
+bad_text t = list_any bad_byte t
 
 -- whether it is a remark with such a text
 abbrev pub has_bad_text : Item → Bool

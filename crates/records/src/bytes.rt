@@ -1,6 +1,8 @@
 // The layer of bytes: where a record begins and ends.
-ghost use Rattle.std.specs.Prelude.{◌≡◌, ◌+◌, ◌≤◌, length};
-ghost use Rattle.records.specs.Bytes.{as_framed, byte_fault_number, byte_fault_at, frame_at, four_at, two_at, size_check};
+ghost use Rattle.std.specs.Prelude.{◌≡◌, true, false, MatchOption};
+ghost use Rattle.records.specs.Bytes.{as_framed, byte_fault_number, byte_fault_at, cut_short, frame_at, frame_of, framed, number_of, size_check};
+
+use std::array;
 
 // Where a record stands: its number, from 1, and the place of its first byte, from 0.
 #[derive(Clone, Copy, Debug, PartialEq, Eq)]
@@ -32,8 +34,7 @@ impl ByteFault {
         ensures { result ≡ byte_fault_at self }
     {
         match self {
-            ByteFault::CutShort(at) => at,
-            ByteFault::TooLong(at) => at,
+            ByteFault::CutShort(at) | ByteFault::TooLong(at) => at,
         }
     }
 }
@@ -60,34 +61,24 @@ pub fn check_size(file: &[u8], at: At) -> Result<(), ByteFault>
 pub fn frame_at(file: &[u8], at: At) -> Result<Frame<'_>, ByteFault>
     ensures { as_framed result ≡ frame_at file.now at }
 {
-    let left = file.len().saturating_sub(at.place);
-    if left < 4 {
-        return Err(ByteFault::CutShort(at));
-    }
-    let len = two(file, at.place) as usize;
-    if left < 4 + len {
-        return Err(ByteFault::CutShort(at));
-    }
-    let kind = two(file, at.place + 2);
-    let start = at.place + 4;
-    Ok(Frame {
-        kind,
-        body: &file[start..start + len],
+    frame_in(file, at.place).ok_or(ByteFault::CutShort(at))
+}
+
+// The same, or none where the record is cut short.
+fn frame_in(file: &[u8], place: usize) -> Option<Frame<'_>>
+    ensures { MatchOption result (cut_short file.now place ≡ true) (λ f. (cut_short file.now place ≡ false) × (framed f ≡ frame_of file.now place)) }
+{
+    let (length, rest) = file.get(place..)?.split_first_chunk::<2>()?;
+    let (kind, rest) = rest.split_first_chunk::<2>()?;
+    Some(Frame {
+        kind: number(kind),
+        body: rest.get(..number(length) as usize)?,
     })
 }
 
-// The number in two bytes, the low one first.
-pub(crate) fn two(bytes: &[u8], p: usize) -> u32
-    requires { p + 2 ≤ length bytes.now }
-    ensures { result ≡ two_at bytes.now p }
+// The number in at most four bytes, the low one first.
+pub(crate) fn number(bytes: &[u8]) -> u32
+    ensures { result ≡ number_of bytes.now }
 {
-    u16::from_le_bytes([bytes[p], bytes[p + 1]]) as u32
-}
-
-// The number in four bytes, the low one first.
-pub(crate) fn four(bytes: &[u8], p: usize) -> u32
-    requires { p + 4 ≤ length bytes.now }
-    ensures { result ≡ four_at bytes.now p }
-{
-    u32::from_le_bytes([bytes[p], bytes[p + 1], bytes[p + 2], bytes[p + 3]])
+    u32::from_le_bytes(array::from_fn(|i| bytes.get(i).copied().unwrap_or(0)))
 }

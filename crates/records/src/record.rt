@@ -1,12 +1,14 @@
 // The layer of records: what kind of record stands at a place, and what it says.
-ghost use Rattle.std.specs.Prelude.{◌≡◌, ◌+◌, ◌≤◌, true, length, IfOk};
+ghost use Rattle.std.specs.Prelude.{◌≡◌, ◌+◌, ◌≤◌, true, length, IfOk, Some};
 ghost use Rattle.piles.specs.Numbered.{pile_of};
 ghost use Rattle.std.specs.Option.{option_map};
-ghost use Rattle.records.specs.Records.{as_item, bad_byte, bad_text, board_of, call_of, file_check, fits_kind, item_of, item_from, item_size, kind_number, kind_of, record_at, record_fault_at, record_fault_number, text_check};
+ghost use Rattle.records.specs.Records.{as_item, bad_byte, bad_text, board_of, call_of, file_check, fits_kind, item_of, item_from, item_size, kind_number, kind_or_unknown, record_at, record_fault_at, record_fault_number, text_check, unknown_kind_text};
 ghost use Rattle.records.specs.declared.record.RecordFault.TheVariants.{Bytes};
 
-use crate::bytes::{At, ByteFault, Frame, check_size, four, frame_at, two};
+use crate::bytes::{At, ByteFault, Frame, check_size, frame_at, number};
 use piles::pile::Pile;
+use std::error::Error;
+use std::fmt;
 use tables::calls::{Call, Move};
 
 #[derive(Clone, Copy, Debug, PartialEq, Eq)]
@@ -46,9 +48,9 @@ impl RecordFault {
     {
         match self {
             RecordFault::Bytes(fault) => fault.at(),
-            RecordFault::UnknownKind(at) => at,
-            RecordFault::WrongLength(at) => at,
-            RecordFault::BadText(at) => at,
+            RecordFault::UnknownKind(at)
+            | RecordFault::WrongLength(at)
+            | RecordFault::BadText(at) => at,
         }
     }
 }
@@ -57,50 +59,58 @@ impl RecordFault {
 pub fn check_file(file: &[u8], at: At) -> Result<(), RecordFault>
     ensures { result ≡ file_check file.now at }
 {
-    check_size(file, at)?;
-    Ok(())
+    check_size(file, at).map_err(RecordFault::from)
 }
 
 #[derive(Clone, Copy, Debug, PartialEq, Eq)]
 pub enum Kind {
-    Head,
-    Lay,
-    Begin,
-    Turn,
-    Advise,
-    Remark,
-    End,
+    Head = 1,
+    Lay = 2,
+    Begin = 3,
+    Turn = 4,
+    Advise = 5,
+    Remark = 6,
+    End = 7,
+}
+
+// A number that no kind of record has.
+#[derive(Clone, Copy, Debug, PartialEq, Eq)]
+pub struct UnknownKind(pub u32);
+
+impl fmt::Display for UnknownKind {
+    ghost output = { λ e. Some (unknown_kind_text e) };
+
+    fn fmt<W: fmt::Write>(&self, f: &mut fmt::Formatter<W>) -> fmt::Result {
+        write!(f, "no kind of record has the number {}", self.0)
+    }
+}
+
+impl Error for UnknownKind {}
+
+impl TryFrom<u32> for Kind {
+    type Error = UnknownKind;
+
+    ghost try_from_gives = { λ n r. r ≡ kind_or_unknown n };
+
+    fn try_from(number: u32) -> Result<Kind, UnknownKind> {
+        match number {
+            1 => Ok(Kind::Head),
+            2 => Ok(Kind::Lay),
+            3 => Ok(Kind::Begin),
+            4 => Ok(Kind::Turn),
+            5 => Ok(Kind::Advise),
+            6 => Ok(Kind::Remark),
+            7 => Ok(Kind::End),
+            _ => Err(UnknownKind(number)),
+        }
+    }
 }
 
 impl Kind {
-    // The kind of a number, from 1 to 7.
-    pub fn of(number: u32) -> Option<Kind>
-        ensures { result ≡ kind_of number }
-    {
-        match number {
-            1 => Some(Kind::Head),
-            2 => Some(Kind::Lay),
-            3 => Some(Kind::Begin),
-            4 => Some(Kind::Turn),
-            5 => Some(Kind::Advise),
-            6 => Some(Kind::Remark),
-            7 => Some(Kind::End),
-            _ => None,
-        }
-    }
-
     pub fn number(self) -> u32
         ensures { result ≡ kind_number self }
     {
-        match self {
-            Kind::Head => 1,
-            Kind::Lay => 2,
-            Kind::Begin => 3,
-            Kind::Turn => 4,
-            Kind::Advise => 5,
-            Kind::Remark => 6,
-            Kind::End => 7,
-        }
+        self as u32
     }
 
     // Whether a body of that length fits the kind.
@@ -154,9 +164,7 @@ impl<'a> Record<'a> {
         ensures within { IfOk result (λ x. at.place + item_size (item_of x) ≤ length file.now) }
     {
         let Frame { kind, body } = frame_at(file, at)?;
-        let Some(kind) = Kind::of(kind) else {
-            return Err(RecordFault::UnknownKind(at));
-        };
+        let kind = Kind::try_from(kind).map_err(|_| RecordFault::UnknownKind(at))?;
         if !kind.fits(body.len()) {
             return Err(RecordFault::WrongLength(at));
         }
@@ -170,16 +178,16 @@ impl<'a> Record<'a> {
     {
         match kind {
             Kind::Head => Record::Head(Head {
-                pile: two(body, 0),
-                w: two(body, 2),
-                h: two(body, 4),
-                set: four(body, 6),
+                pile: number(&body[..2]),
+                w: number(&body[2..4]),
+                h: number(&body[4..6]),
+                set: number(&body[6..]),
             }),
-            Kind::Lay => Record::Lay(two(body, 0)),
+            Kind::Lay => Record::Lay(number(body)),
             Kind::Begin => Record::Begin,
             Kind::Turn => Record::Turn(Move {
-                cell: two(body, 0),
-                number: four(body, 2),
+                cell: number(&body[..2]),
+                number: number(&body[2..]),
             }),
             Kind::Advise => Record::Advise,
             Kind::Remark => Record::Remark(body),
@@ -228,16 +236,5 @@ impl<'a> Record<'a> {
 fn has_bad_byte(text: &[u8]) -> bool
     ensures { result ≡ bad_text text.now }
 {
-    for b in text {
-        if is_bad(*b) {
-            return true;
-        }
-    }
-    false
-}
-
-fn is_bad(b: u8) -> bool
-    ensures { result ≡ bad_byte b }
-{
-    b < 32 || b > 126
+    text.iter().any(|b| !(32..=126).contains(b))
 }

@@ -1,5 +1,5 @@
 -- A fault is met again, and the first record is a head.
-use Rattle.std.proofs.Common.{◌≡◌, ℕ, zero, suc, Bool, true, false, cond, List, Some, None, Ok, Err, Option, Result, sym, ap, ◌∙◌, arith}
+use Rattle.std.proofs.Common.{◌≡◌, ℕ, zero, suc, Bool, true, false, cond, List, Some, Ok, Err, Option, Result, sym, ap, ◌∙◌, arith}
 use Rattle.records.specs.Bytes.{too_long}
 use Rattle.records.specs.Records.{Item, head, lay, begin, turn, advise, remark, end, record_at}
 use Rattle.records.specs.declared.bytes.At.{At}
@@ -50,6 +50,3 @@ head_first file at item q =
     let f = first_found file (Some item) q in
     let e : item ≡ head f.0 = let p = f.1 in cc in
     ap (λ x. as_first (head_or at x)) e ∙ ap (λ x. Ok (Some x)) (sym e) ∙ q
-
-pub some_first : (file : List ℕ) → Ok None ≡ found (start file) → ⊥
-some_first file q = let p = (first_found file None q).1 in let z : ◌≡◌ {A = ℕ} 0 1 = cc in omega arith

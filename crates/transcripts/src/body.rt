@@ -9,6 +9,7 @@ pub struct Body<'a> {
     file: &'a [u8],
     place: usize,
     read: usize,
+    // A flag, since a reader behind the end record holds nothing more.
     ended: bool,
     ghost counted: { 4 * read ≤ place },
 }

@@ -69,11 +69,11 @@ impl Fault {
     {
         match self {
             Fault::Records(fault) => fault.at(),
-            Fault::HeadMisplaced(at) => at,
-            Fault::NoPile(at) => at,
-            Fault::NoEnd(at) => at,
-            Fault::AfterEnd(at) => at,
-            Fault::SmallBuffer(at) => at,
+            Fault::HeadMisplaced(at)
+            | Fault::NoPile(at)
+            | Fault::NoEnd(at)
+            | Fault::AfterEnd(at)
+            | Fault::SmallBuffer(at) => at,
         }
     }
 }

@@ -2,7 +2,6 @@
 ghost use Rattle.std.specs.Prelude.{◌≡◌, ◌+◌, ◌≤◌, length, IfOk, Some, Ok, Err};
 ghost use Rattle.records.specs.Records.{item_of, item_size, record_at};
 ghost use Rattle.transcripts.specs.Readings.{accepted, as_found, as_looked, at_of, found, reading, reading_after, start, Stuck};
-ghost use Rattle.transcripts.specs.Readings.{is_end as end_item, is_head as head_item, lacks_pile as pileless};
 ghost use Rattle.transcripts.specs.declared.fault.Fault.{Fault};
 
 use super::Body;
@@ -50,19 +49,16 @@ impl<'a> Body<'a> {
         let at = self.at();
         check_file(self.file, at)?;
         let at_end = self.place >= self.file.len();
-        if self.ended {
-            return if at_end {
-                Ok(None)
-            } else {
-                Err(Fault::AfterEnd(at))
-            };
+        match (self.ended, at_end) {
+            (true, true) => Ok(None),
+            (true, false) => Err(Fault::AfterEnd(at)),
+            (false, true) => Err(Fault::NoEnd(at)),
+            (false, false) => {
+                let record = self.look()?;
+                self.pass(record);
+                Ok(Some(record))
+            }
         }
-        if at_end {
-            return Err(Fault::NoEnd(at));
-        }
-        let record = self.look()?;
-        self.pass(record);
-        Ok(Some(record))
     }
 
     // The record at the reader's place, if it may stand there.
@@ -73,10 +69,10 @@ impl<'a> Body<'a> {
         let at = self.at();
         let record = Record::read(self.file, at)?;
         let first = self.read == 0;
-        if is_head(record) != first {
+        if matches!(record, Record::Head(_)) != first {
             return Err(Fault::HeadMisplaced(at));
         }
-        if lacks_pile(record) {
+        if matches!(record, Record::Head(head) if head.board().is_none()) {
             return Err(Fault::NoPile(at));
         }
         record.check_text(at)?;
@@ -90,28 +86,6 @@ impl<'a> Body<'a> {
     {
         self.place += record.size();
         self.read += 1;
-        self.ended = is_end(record);
-    }
-}
-
-fn is_head(record: Record) -> bool
-    ensures { result ≡ head_item (item_of «record».entry) }
-{
-    matches!(record, Record::Head(_))
-}
-
-fn is_end(record: Record) -> bool
-    ensures { result ≡ end_item (item_of «record».entry) }
-{
-    matches!(record, Record::End)
-}
-
-// Whether it is a head, and of a pile that is not numbered.
-fn lacks_pile(record: Record) -> bool
-    ensures { result ≡ pileless (item_of «record».entry) }
-{
-    match record {
-        Record::Head(head) => head.board().is_none(),
-        _ => false,
+        self.ended = matches!(record, Record::End);
     }
 }
