@@ -23,21 +23,18 @@ mod tests {
             return Err(Fail::new("no pile"));
         };
         let mut table = Table::new(pile);
-        assert!(rt; matches!(table.lay(0), Ok(Answer::Laid)));
-        assert!(rt; matches!(table.lay(3), Ok(Answer::Laid)));
-        assert!(rt; matches!(table.begin(), Ok(Answer::Begun(State::Playing))));
-        assert!(rt; matches!(table.value(), Ok(Answer::Worth(2))));
-        let Ok(Answer::Advice(Some(m))) = table.advise() else {
-            return Err(Fail::new("no advice"));
-        };
-        assert_eq!(rt; m.cell, 3);
-        assert_eq!(rt; m.number, 3);
-        assert!(rt; matches!(table.weigh(m), Ok(Answer::Worth(0))));
-        assert!(rt; matches!(table.turn(m), Ok(Answer::Turned(State::Playing))));
-        assert!(rt; matches!(table.advise(), Ok(Answer::Advice(None))));
-        assert!(rt; matches!(table.turn(at(0, 0)), Err(Refusal::Tails)));
-        assert!(rt; matches!(table.turn(at(1, 0)), Ok(Answer::Turned(State::Playing))));
-        assert!(rt; matches!(table.turn(at(2, 0)), Ok(Answer::Turned(State::Over))));
+        assert_eq!(rt; table.lay(0), Ok(Answer::Laid));
+        assert_eq!(rt; table.lay(3), Ok(Answer::Laid));
+        assert_eq!(rt; table.begin(), Ok(Answer::Begun(State::Playing)));
+        assert_eq!(rt; table.value(), Ok(Answer::Worth(2)));
+        let m = at(3, 3);
+        assert_eq!(rt; table.advise(), Ok(Answer::Advice(Some(m))));
+        assert_eq!(rt; table.weigh(m), Ok(Answer::Worth(0)));
+        assert_eq!(rt; table.turn(m), Ok(Answer::Turned(State::Playing)));
+        assert_eq!(rt; table.advise(), Ok(Answer::Advice(None)));
+        assert_eq!(rt; table.turn(at(0, 0)), Err(Refusal::Tails));
+        assert_eq!(rt; table.turn(at(1, 0)), Ok(Answer::Turned(State::Playing)));
+        assert_eq!(rt; table.turn(at(2, 0)), Ok(Answer::Turned(State::Over)));
         assert_eq!(rt; table.side().number(), 2);
         Ok(())
     }
@@ -45,25 +42,25 @@ mod tests {
     #[test]
     fn a_head_with_no_move_ends_the_game(rt: HostRuntime) {
         let mut table = Table::new(Twins::new(4));
-        assert!(rt; matches!(table.lay(0), Ok(Answer::Laid)));
-        assert!(rt; matches!(table.begin(), Ok(Answer::Begun(State::Over))));
+        assert_eq!(rt; table.lay(0), Ok(Answer::Laid));
+        assert_eq!(rt; table.begin(), Ok(Answer::Begun(State::Over)));
         assert!(rt; table.heads(0));
-        assert!(rt; matches!(table.advise(), Err(Refusal::NotNow)));
+        assert_eq!(rt; table.advise(), Err(Refusal::NotNow));
     }
 
     #[test]
     fn refusals_in_their_order(rt: HostRuntime) {
         let mut empty = Table::new(Twins::new(65));
-        assert!(rt; matches!(empty.turn(at(9, 9)), Err(Refusal::NoCells)));
+        assert_eq!(rt; empty.turn(at(9, 9)), Err(Refusal::NoCells));
         let mut table = Table::new(Twins::new(4));
-        assert!(rt; matches!(table.turn(at(9, 9)), Err(Refusal::NotNow)));
-        assert!(rt; matches!(table.lay(4), Err(Refusal::OffBoard)));
-        assert!(rt; matches!(table.lay(3), Ok(Answer::Laid)));
-        assert!(rt; matches!(table.lay(3), Err(Refusal::Heads)));
-        assert!(rt; matches!(table.begin(), Ok(Answer::Begun(State::Playing))));
-        assert!(rt; matches!(table.turn(at(4, 9)), Err(Refusal::OffBoard)));
-        assert!(rt; matches!(table.turn(at(2, 9)), Err(Refusal::Tails)));
-        assert!(rt; matches!(table.weigh(at(3, 3)), Err(Refusal::NoMove)));
+        assert_eq!(rt; table.turn(at(9, 9)), Err(Refusal::NotNow));
+        assert_eq!(rt; table.lay(4), Err(Refusal::OffBoard));
+        assert_eq!(rt; table.lay(3), Ok(Answer::Laid));
+        assert_eq!(rt; table.lay(3), Err(Refusal::Heads));
+        assert_eq!(rt; table.begin(), Ok(Answer::Begun(State::Playing)));
+        assert_eq!(rt; table.turn(at(4, 9)), Err(Refusal::OffBoard));
+        assert_eq!(rt; table.turn(at(2, 9)), Err(Refusal::Tails));
+        assert_eq!(rt; table.weigh(at(3, 3)), Err(Refusal::NoMove));
     }
 
     #[test]

@@ -20,11 +20,11 @@ fn a_small_buffer_is_refused(rt: HostRuntime) -> Result<(), Fail> {
         return Err(Fail::new("no fault"));
     };
     assert_eq!(rt; fault.number(), 19);
-    assert!(rt; matches!(fault.layer(), Layer::Referee));
+    assert_eq!(rt; fault.layer(), Layer::Referee);
     assert_eq!(rt; fault.at().number, 1);
     assert_eq!(rt; small, [35; 127]);
     let mut line = [35; 128];
-    assert!(rt; matches!(referee.step(&mut line), Ok(10)));
+    assert_eq!(rt; referee.step(&mut line), Ok(10));
     assert_eq!(rt; &line[0..10], b"1 board 4\n".as_slice());
     assert_eq!(rt; &line[10..128], [35; 118].as_slice());
     Ok(())
@@ -34,12 +34,12 @@ fn a_small_buffer_is_refused(rt: HostRuntime) -> Result<(), Fail> {
 fn nothing_is_written_behind_the_end(rt: HostRuntime) -> Result<(), Fail> {
     let mut referee = Referee::new(rt.alloc(), Unread::new(HEAD_AND_END))?;
     let mut line = [0; 128];
-    assert!(rt; matches!(referee.step(&mut line), Ok(10)));
-    assert!(rt; matches!(referee.step(&mut line), Ok(6)));
+    assert_eq!(rt; referee.step(&mut line), Ok(10));
+    assert_eq!(rt; referee.step(&mut line), Ok(6));
     assert_eq!(rt; &line[0..6], b"2 end\n".as_slice());
     let mut last = [35; 200];
-    assert!(rt; matches!(referee.step(&mut last), Ok(0)));
-    assert!(rt; matches!(referee.step(&mut last), Ok(0)));
+    assert_eq!(rt; referee.step(&mut last), Ok(0));
+    assert_eq!(rt; referee.step(&mut last), Ok(0));
     assert_eq!(rt; last, [35; 200]);
     Ok(())
 }
@@ -48,13 +48,13 @@ fn nothing_is_written_behind_the_end(rt: HostRuntime) -> Result<(), Fail> {
 fn a_fault_is_met_again(rt: HostRuntime) -> Result<(), Fail> {
     let mut referee = Referee::new(rt.alloc(), Unread::new(CUT_SHORT))?;
     let mut line = [0; 128];
-    assert!(rt; matches!(referee.step(&mut line), Ok(10)));
+    assert_eq!(rt; referee.step(&mut line), Ok(10));
     assert!(rt; referee.step(&mut line).is_err());
     let Err(fault) = referee.step(&mut line) else {
         return Err(Fail::new("no fault"));
     };
-    assert!(rt; matches!(fault.layer(), Layer::Bytes));
-    assert!(rt; matches!(write_fault(fault, &mut line), Ok(15)));
+    assert_eq!(rt; fault.layer(), Layer::Bytes);
+    assert_eq!(rt; write_fault(fault, &mut line), Ok(15));
     assert_eq!(rt; &line[0..15], b"2 bad 10 at 14\n".as_slice());
     Ok(())
 }

@@ -1,8 +1,7 @@
 -- Lines so far, and what they come to.
-use Rattle.std.proofs.Common.{◌≡◌, ℕ, ◌+◌, ◌-◌, ◌<◌, ◌≤◌, Bool, true, false, cond, List, [], ◌∷◌, ◌++◌, length, take, Some, None, Ok, Err, codes, Option, Result, sym, refl, ap, ◌∙◌, subst, append_assoc, append-nil, add-zero, arith, length-append}
+use Rattle.std.proofs.Common.{◌≡◌, ℕ, ◌+◌, ◌-◌, ◌<◌, ◌≤◌, Bool, true, false, cond, List, [], ◌∷◌, ◌++◌, length, Some, None, Ok, Err, Option, Result, sym, refl, ap, ◌∙◌, subst, append_assoc, append-nil, add-zero, arith, length-append}
 use Rattle.games.specs.Rules.{Rules, Lawful, Replies}
-use Rattle.tables.specs.Coins.{coins}
-use Rattle.tables.specs.Calls.{refusal_number, reply_to}
+use Rattle.tables.specs.Calls.{reply_to}
 use Rattle.tables.specs.Runs.{Entry, Promise, Run, Stands, Told, coin, state_of}
 use Rattle.tables.specs.declared.calls.Call.{Call}
 use Rattle.tables.specs.declared.calls.Call.TheVariants.{Advise}
@@ -14,12 +13,11 @@ use Rattle.transcripts.specs.declared.fault.Fault.TheVariants.{NoEnd, Records}
 use Rattle.records.specs.Bytes.{too_long}
 use Rattle.records.specs.declared.bytes.ByteFault.TheVariants.{TooLong}
 use Rattle.records.specs.declared.record.RecordFault.TheVariants.{Bytes}
-use Rattle.reports.specs.Lines.{bad_line, line, opening}
-use Rattle.reports.specs.Outcomes.{Telling, board, laid, begun, turned, play, lost, refused, said, ended, line_of, over_mark}
-use Rattle.reports.specs.Steps.{CallCarries, buffer_after, call_met, game_of, length_given, line_for, reply_for, run_call, run_with, tell}
+use Rattle.reports.specs.Lines.{bad_line, line}
+use Rattle.reports.specs.Outcomes.{line_of}
+use Rattle.reports.specs.Steps.{CallCarries, Tells, call_met, game_of, line_for, line_given, reply_for, run_call, run_with, tell}
 use Rattle.tables.proofs.AdviceLaws.{promise}
 use Rattle.reports.proofs.StepLaws.{found_inside}
-use Rattle.reports.proofs.Writing.{front_fits, front_taken}
 use Rattle.reports.specs.Reports.{AdviceLines, Closes, Finds, Reported, lines_of, reading_by, run_by, run_line}
 
 -- one record more
@@ -75,12 +73,12 @@ line_same G h n item before after b a = λ i.
     line_of n (tell G (a.coins_stand i) (a.state_stands i) (reply_for G (b.coins_stand i) (b.state_stands i) item) item)
 
 the_end : (item : Item) → is_end item ≡ true → item ≡ end
-the_end (head x) h = absurd (let z : ◌≡◌ {A = Bool} false true = h in let y : ◌≡◌ {A = ℕ} 0 1 = cc in omega arith)
-the_end (lay c) h = absurd (let z : ◌≡◌ {A = Bool} false true = h in let y : ◌≡◌ {A = ℕ} 0 1 = cc in omega arith)
-the_end begin h = absurd (let z : ◌≡◌ {A = Bool} false true = h in let y : ◌≡◌ {A = ℕ} 0 1 = cc in omega arith)
-the_end (turn m) h = absurd (let z : ◌≡◌ {A = Bool} false true = h in let y : ◌≡◌ {A = ℕ} 0 1 = cc in omega arith)
-the_end advise h = absurd (let z : ◌≡◌ {A = Bool} false true = h in let y : ◌≡◌ {A = ℕ} 0 1 = cc in omega arith)
-the_end (remark t) h = absurd (let z : ◌≡◌ {A = Bool} false true = h in let y : ◌≡◌ {A = ℕ} 0 1 = cc in omega arith)
+the_end (head x) h = cc
+the_end (lay c) h = cc
+the_end begin h = cc
+the_end (turn m) h = cc
+the_end advise h = cc
+the_end (remark t) h = cc
 the_end end h = refl
 
 pub progress : (G : Rules) (file : List ℕ) (items : List Item) (r r' : Reading) (kept kept' : Record) (out out' : List ℕ) (item : Item)
@@ -114,63 +112,31 @@ started G file r kept out e s o = record {
   ended = λ t. absurd (let z : ◌≡◌ {A = Bool} false true = sym (ap (λ x. x.ended) e) ∙ t in let y : ◌≡◌ {A = ℕ} 0 1 = cc in omega arith);
 }
 
--- a step that gives a length other than 0 met a record, and gave the length of its line
-pub hit : (text : Item → List ℕ) (x : Result (Option Item) Fault) (n : ℕ) → Ok n ≡ length_given text x → (n ≡ 0 → ⊥)
-    → (item : Item) × ((x ≡ Ok (Some item)) × (n ≡ length (text item)))
-hit text (Ok (Some item)) n e z = (item, (refl, cc))
-hit text (Ok None) n e z = absurd (z (cc))
-hit text (Err d) n e z = absurd (let y : ◌≡◌ {A = ℕ} 0 1 = cc in omega arith)
+-- what gives a line found a record, and what gives none found none
+line_found : (text : Item → List ℕ) (x : Result (Option Item) Fault) (given : Option (List ℕ)) (line : List ℕ) → given ≡ Some line
+    → Ok given ≡ line_given text x → (item : Item) × (x ≡ Ok (Some item)) × (line ≡ text item)
+line_found text (Ok (Some item)) given line s e = (item, refl, cc)
+line_found text (Ok None) given line s e = cc
+line_found text (Err d) given line s e = cc
 
-line_some : (n : ℕ) (word ns tail : List ℕ) → 0 < length (line n word ns tail)
-line_some n word ns tail = omega (arith, length-append (opening n word ns) (tail ++ (10 ∷ [])), length-append tail (10 ∷ []))
+pub none_found : (text : Item → List ℕ) (x : Result (Option Item) Fault) (given : Option (List ℕ)) → given ≡ None → Ok given ≡ line_given text x → x ≡ Ok None
+none_found text (Ok (Some item)) given n e = cc
+none_found text (Ok None) given n e = refl
+none_found text (Err d) given n e = cc
 
--- no line is empty
-told_some : (n : ℕ) (t : Telling) → 0 < length (line_of n t)
-told_some n (board size) = line_some n (codes " board") (size ∷ []) []
-told_some n (laid c) = line_some n (codes " laid") (c ∷ []) []
-told_some n (begun s) = line_some n (codes " begun") [] (over_mark s)
-told_some n (turned m v s) = line_some n (codes " turned") (m.cell ∷ m.number ∷ v ∷ []) (over_mark s)
-told_some n (play m) = line_some n (codes " play") (m.cell ∷ m.number ∷ []) []
-told_some n lost = line_some n (codes " lost") [] []
-told_some n (refused r) = line_some n (codes " no") (refusal_number r ∷ []) []
-told_some n (said t) = line_some n (codes " said ") [] t
-told_some n ended = line_some n (codes " end") [] []
-
--- a step that gives the length 0 met no record
-none_met : (text : Item → List ℕ) (x : Result (Option Item) Fault) → ((item : Item) → 0 < length (text item)) → Ok 0 ≡ length_given text x → x ≡ Ok None
-none_met text (Ok (Some item)) some e = let z : 0 ≡ length (text item) = cc in absurd (omega (arith, some item))
-none_met text (Ok None) some e = refl
-none_met text (Err d) some e = absurd (let y : ◌≡◌ {A = ℕ} 0 1 = cc in omega arith)
-
-pub none_hit : (G : Rules) (n : ℕ) (before after : Record) (x : Result (Option Item) Fault) → Ok 0 ≡ length_given (line_for G n before after) x → x ≡ Ok None
-none_hit G n before after x e =
-    none_met (line_for G n before after) x
-    (λ item. told_some n (tell G (coins after.position) after.state (reply_for G (coins before.position) before.state item) item)) e
-
--- a step that gave a line: what was read, the table and the lines afterwards
-pub advance : (G G' : Rules) → G' ≡ G → (file : List ℕ) (items : List Item) (r r' : Reading) (kept kept' : Record) (out out' bytes bytes' : List ℕ)
-    (x : Result (Option Item) Fault) (n : ℕ) → Progress G file items r kept out → x ≡ found r
-    → Ok n ≡ length_given (line_for G' (r.read + 1) kept kept') x → (n ≡ 0 → ⊥) → r' ≡ reading_after r x → CallCarries G' kept kept' (call_met x)
-    → bytes' ≡ buffer_after (line_for G' (r.read + 1) kept kept') bytes x → out' ≡ out ++ take n bytes'
+-- a line that is told: what was read, the table and the lines afterwards
+pub advance : (G G' : Rules) → G' ≡ G → (file : List ℕ) (items : List Item) (r r' : Reading) (kept kept' : Record) (out out' line : List ℕ)
+    (given : Option (List ℕ)) → given ≡ Some line → Progress G file items r kept out → Tells G' r r' kept kept' (Ok given) → out' ≡ out ++ line
     → (item : Item) × Progress G file (items ++ (item ∷ [])) r' kept' out'
-advance G G' same file items r r' kept kept' out out' bytes bytes' x n p m e z a c b o =
-    let text = line_for G' (r.read + 1) kept kept' in
-    let h = hit text x n e z in
+advance G G' same file items r r' kept kept' out out' line given s p t o =
+    let h = line_found (line_for G' (r.read + 1) kept kept') (found r) given line s t.gives in
     let item = h.0 in
-    let is : x ≡ Ok (Some item) = h.1.0 in
-    let taken : take n bytes' ≡ line_for G (r.read + 1) kept kept' item
-    = front_taken (text item) bytes bytes' n h.1.1 (b ∙ ap (buffer_after text bytes) is) ∙ ap (λ g. line_for g (r.read + 1) kept kept' item) same in (
+    let carries = subst (λ y. CallCarries G' kept kept' (call_met y)) h.1 t.run in
+    let told = h.2 ∙ ap (λ g. line_for g (r.read + 1) kept kept' item) same in (
       item,
-      progress G file items r r' kept kept' out out' item p (sym m ∙ is) (a ∙ ap (reading_after r) is)
-          (subst (λ g. CallCarries g kept kept' (call_of item)) same (subst (λ y. CallCarries G' kept kept' (call_met y)) is c)) (o ∙ ap (λ t. out ++ t) taken),
+      progress G file items r r' kept kept' out out' item p h.1 (t.reading ∙ ap (reading_after r) h.1)
+          (subst (λ g. CallCarries g kept kept' (call_of item)) same carries) (o ∙ ap (λ y. out ++ y) told),
     )
-
--- the line that a step gave lies within the buffer
-pub given_fits : (text : Item → List ℕ) (bytes bytes' : List ℕ) (x : Result (Option Item) Fault) (n : ℕ) → Ok n ≡ length_given text x → (n ≡ 0 → ⊥)
-    → bytes' ≡ buffer_after text bytes x → n ≤ length bytes'
-given_fits text bytes bytes' x n e z b =
-    let h = hit text x n e z in
-    front_fits (text h.0) bytes bytes' n h.1.1 (b ∙ ap (buffer_after text bytes) h.1.0)
 
 four_or_more : (item : Item) → 4 ≤ item_size item
 four_or_more (head x) = omega arith
@@ -182,13 +148,12 @@ four_or_more (remark t) = omega arith
 four_or_more end = omega arith
 
 -- less of the file is left after each line
-pub less_left : (text : Item → List ℕ) (r r' : Reading) (x : Result (Option Item) Fault) (n : ℕ) → x ≡ found r → Ok n ≡ length_given text x → (n ≡ 0 → ⊥)
-    → r' ≡ reading_after r x → length r'.file - r'.place < length r.file - r.place
-less_left text r r' x n m e z a =
-    let h = hit text x n e z in
-    let inside = found_inside r h.0 (sym m ∙ h.1.0) in
-    let is = a ∙ ap (reading_after r) h.1.0 in
-    omega (arith, inside, four_or_more h.0, ap (λ y. y.place) is, ap (λ y. length y.file) is)
+pub less_left : (G : Rules) (r r' : Reading) (kept kept' : Record) (line : List ℕ) (given : Option (List ℕ)) → given ≡ Some line
+    → Tells G r r' kept kept' (Ok given) → length r'.file - r'.place < length r.file - r.place
+less_left G r r' kept kept' line given s t =
+    let h = line_found (line_for G (r.read + 1) kept kept') (found r) given line s t.gives in
+    let is = t.reading ∙ ap (reading_after r) h.1 in
+    omega (arith, found_inside r h.0 h.1, four_or_more h.0, ap (λ y. y.place) is, ap (λ y. length y.file) is)
 
 -- the run of a file goes on from the runs of its beginnings
 grown : (G : Rules) (h : Run) (call : Option Call) (run later : Run) → run ≡ later ++ run_call G h call → (l : Run) × (run ≡ l ++ h)

@@ -1,13 +1,9 @@
 -- The lines that are written. Assumes nothing.
-use Rattle.std.specs.Prelude.{ℕ, ◌+◌, Bool, List, [], ◌∷◌, ◌++◌, length, take, drop, codes, decimal, nat_lt}
+use Rattle.std.specs.Prelude.{ℕ, Bool, List, [], ◌∷◌, ◌++◌, length, drop, codes, decimal, nat_lt}
 
 -- a buffer has room for a line from 128 bytes on
 abbrev pub too_small : ℕ → Bool
 too_small room = nat_lt room 128
-
--- bytes with others written over them from a place on
-abbrev pub overwritten : List ℕ → ℕ → List ℕ → List ℕ
-overwritten bytes at text = take at bytes ++ (text ++ drop (at + length text) bytes)
 
 -- bytes with a line written over their front
 abbrev pub in_front : List ℕ → List ℕ → List ℕ

@@ -129,6 +129,19 @@ abbrev pub line_for : Rules → ℕ → Record → Record → Item → List ℕ
 line_for G n before after item =
     line_of n (tell G (coins after.position) after.state (reply_for G (coins before.position) before.state item) item)
 
+-- the line that is given for what is found: none where there is no record
+abbrev pub line_given : (Item → List ℕ) → Result (Option Item) Fault → Result (Option (List ℕ)) Fault
+line_given text (Ok (Some item)) = Ok (Some (text item))
+line_given text (Ok None) = Ok None
+line_given text (Err e) = Err e
+
+-- what reading on and telling does, by what is found: the reading place and the table afterwards, the laws of runs, and the line that it gives
+pub record Tells (G : Rules) (r r' : Reading) (before after : Record) (given : Result (Option (List ℕ)) Fault) : Type 0 where
+  pub reading : r' ≡ reading_after r (found r)
+  pub leaves : CallLeaves G before after (call_met (found r))
+  pub run : CallCarries G before after (call_met (found r))
+  pub gives : given ≡ line_given (line_for G (r.read + 1) before after) (found r)
+
 -- what a step does, by what it meets: the reading place and the table afterwards, the laws of runs, the length that it gives and the buffer
 pub record Stepped (G : Rules) (r r' : Reading) (before after : Record) (bytes bytes' : List ℕ) (given : Result ℕ Fault) : Type 0 where
   pub reading : r' ≡ reading_after r (met (length bytes) r)

@@ -1,101 +1,129 @@
-// Text, numbers and whole lines, written into a buffer.
-ghost use Rattle.std.specs.Prelude.{◌≡◌, ◌+◌, ◌*◌, ◌≤◌, ◌∷◌, length, decimal};
-ghost use Rattle.reports.specs.Lines.{bad_line, fields as fields_of, in_front, line as line_bytes, opening, overwritten, too_small};
+// Lines: text, numbers in decimal, and whole lines.
+ghost use Rattle.std.specs.Prelude.{◌≡◌, ℕ, ◌+◌, ◌*◌, ◌≤◌, List, [], ◌++◌, false, length};
+ghost use Rattle.reports.specs.Lines.{fields as fields_of, in_front, line, opening, too_small};
+
+use arrayvec::ArrayVec;
+use itoa::{Buffer, Integer};
+use std::marker::Model;
+use transcripts::fault::Fault;
+
+// A line, or what it begins with. It is not printed by `write!`, whose contract does not say that it succeeds where there is room.
+#[derive(Drop)]
+pub(crate) struct Line {
+    bytes: ArrayVec<u8, 128>,
+}
+
+impl Model for Line {
+    ghost Value = { List ℕ };
+
+    ghost view = { λ l. l.bytes.items };
+}
+
+impl Line {
+    // An empty line.
+    pub(crate) fn new() -> Line
+        ensures { result ≡ [] }
+    {
+        Line {
+            bytes: ArrayVec::new(),
+        }
+    }
+
+    // Writes the line of a record anew: its number, a word, fields and a tail.
+    #[inline(always)]
+    pub(crate) fn write(&mut self, n: usize, word: &[u8], numbers: &[u32], tail: &[u8])
+        requires { 21 + length word.now + 11 * length numbers.now + length tail.now ≤ 128 }
+        ensures { self.new ≡ line n word.now numbers.now tail.now }
+    {
+        self.open(n, word, numbers);
+        self.text(tail);
+        self.text(b"\n");
+    }
+
+    // Opens the line anew with the number of a record, a word and fields.
+    #[inline(always)]
+    fn open(&mut self, n: usize, word: &[u8], numbers: &[u32])
+        requires { 20 + length word.now + 11 * length numbers.now ≤ 128 }
+        ensures bytes { self.new ≡ opening n word.now numbers.now }
+        ensures short { length self.new ≤ 20 + length word.now + 11 * length numbers.now }
+    {
+        self.bytes.clear();
+        self.number(n);
+        self.text(word);
+        self.fields(numbers);
+    }
+
+    // Adds numbers, each behind a blank.
+    #[inline(always)]
+    fn fields(&mut self, numbers: &[u32])
+        requires { length self.old + 11 * length numbers.now ≤ 128 }
+        ensures bytes { self.new ≡ self.old ++ fields_of numbers.now }
+        ensures short { length self.new ≤ length self.old + 11 * length numbers.now }
+    {
+        for n in numbers {
+            self.text(b" ");
+            self.number(*n);
+        }
+    }
+
+    // Adds a number in decimal.
+    fn number<I: Integer>(&mut self, n: I)
+        requires { length self.old + I.MAX_STR_LEN ≤ 128 }
+        ensures bytes { self.new ≡ self.old ++ I.text n }
+        ensures short { length self.new ≤ length self.old + I.MAX_STR_LEN }
+    {
+        self.text(Buffer::new().format(n).as_bytes());
+    }
+
+    // Adds a text.
+    #[inline(always)]
+    fn text(&mut self, text: &[u8])
+        requires { length self.old + length text.now ≤ 128 }
+        ensures { self.new ≡ self.old ++ text.now }
+    {
+        self.bytes.try_extend_from_slice(text).unwrap();
+    }
+
+    // The bytes of the line.
+    pub(crate) fn as_bytes(&self) -> &[u8]
+        ensures bytes { result.now ≡ self.now }
+        ensures short { length result.now ≤ 128 }
+    {
+        self.bytes.as_slice()
+    }
+
+    // Puts the line in front of a buffer, and gives its length.
+    pub(crate) fn put(&self, buffer: &mut [u8]) -> usize
+        requires { too_small (length buffer.old) ≡ false }
+        ensures length { result ≡ length self.now }
+        ensures buffer { buffer.new ≡ in_front self.now buffer.old }
+    {
+        let bytes = self.as_bytes();
+        buffer[..bytes.len()].copy_from_slice(bytes);
+        bytes.len()
+    }
+}
+
+// The line of a fault.
+impl From<Fault> for Line {
+    ghost use Rattle.reports.specs.Reports.{fault_line};
+
+    ghost from_gives = { λ e l. l ≡ fault_line e };
+
+    fn from(fault: Fault) -> Line {
+        let at = fault.at();
+        let mut line = Line::new();
+        line.open(at.number, b" bad", &[fault.number()]);
+        line.text(b" at ");
+        line.number(at.place);
+        line.text(b"\n");
+        line
+    }
+}
 
 // Whether a buffer is too small for a line.
-pub(crate) fn is_small(line: &[u8]) -> bool
-    ensures { result ≡ too_small (length line.now) }
+pub(crate) fn is_small(buffer: &[u8]) -> bool
+    ensures { result ≡ too_small (length buffer.now) }
 {
-    line.len() < 128
-}
-
-// Writes a text from a place on, and gives the place behind it.
-fn put_text(line: &mut [u8], at: usize, text: &[u8]) -> usize
-    requires { at + length text.now ≤ length line.old }
-    ensures end { result ≡ at + length text.now }
-    ensures bytes { line.new ≡ overwritten line.old at text.now }
-{
-    let end = at + text.len();
-    line[at..end].copy_from_slice(text);
-    end
-}
-
-// Writes a number in decimal from a place on, and gives the place behind it.
-fn put_number(line: &mut [u8], at: usize, n: usize) -> usize
-    requires { at + length (decimal n) ≤ length line.old }
-    ensures end { result ≡ at + length (decimal n) }
-    ensures bytes { line.new ≡ overwritten line.old at (decimal n) }
-{
-    let digit = b'0' + (n % 10) as u8;
-    if n < 10 {
-        return put_text(line, at, &[digit]);
-    }
-    let end = put_number(line, at, n / 10);
-    put_text(line, end, &[digit])
-}
-
-// Writes numbers, each behind a blank, from a place on, and gives the place behind them.
-fn put_fields(line: &mut [u8], at: usize, numbers: &[u32]) -> usize
-    requires { at + 11 * length numbers.now ≤ length line.old }
-    ensures end { result ≡ at + length (fields_of numbers.now) }
-    ensures bytes { line.new ≡ overwritten line.old at (fields_of numbers.now) }
-    ensures short { result ≤ at + 11 * length numbers.now }
-{
-    let mut end = at;
-    for n in numbers {
-        end = put_field(line, end, *n);
-    }
-    end
-}
-
-// Writes a blank and a number.
-fn put_field(line: &mut [u8], at: usize, n: u32) -> usize
-    requires { at + 11 ≤ length line.old }
-    ensures end { result ≡ at + length (32 ∷ decimal n) }
-    ensures bytes { line.new ≡ overwritten line.old at (32 ∷ decimal n) }
-    ensures short { result ≤ at + 11 }
-{
-    let at = put_text(line, at, b" ");
-    put_number(line, at, n as usize)
-}
-
-// Writes the number of a record, a word and fields, and gives the place behind them.
-fn put_opening(line: &mut [u8], n: usize, word: &[u8], numbers: &[u32]) -> usize
-    requires { 20 + length word.now + 11 * length numbers.now ≤ length line.old }
-    ensures end { result ≡ length (opening n word.now numbers.now) }
-    ensures bytes { line.new ≡ overwritten line.old 0 (opening n word.now numbers.now) }
-    ensures short { result ≤ 20 + length word.now + 11 * length numbers.now }
-{
-    let number_end = put_number(line, 0, n);
-    let word_end = put_text(line, number_end, word);
-    put_fields(line, word_end, numbers)
-}
-
-// Writes a whole line, and gives its length.
-pub(crate) fn put_line(
-    line: &mut [u8],
-    n: usize,
-    word: &[u8],
-    numbers: &[u32],
-    tail: &[u8],
-) -> usize
-    requires { 21 + length word.now + 11 * length numbers.now + length tail.now ≤ length line.old }
-    ensures length { result ≡ length (line_bytes n word.now numbers.now tail.now) }
-    ensures bytes { line.new ≡ in_front (line_bytes n word.now numbers.now tail.now) line.old }
-{
-    let opening_end = put_opening(line, n, word, numbers);
-    let tail_end = put_text(line, opening_end, tail);
-    put_text(line, tail_end, b"\n")
-}
-
-// Writes the line of a fault, and gives its length.
-pub(crate) fn put_fault(line: &mut [u8], n: usize, number: u32, place: usize) -> usize
-    requires { 128 ≤ length line.old }
-    ensures length { result ≡ length (bad_line n number place) }
-    ensures bytes { line.new ≡ in_front (bad_line n number place) line.old }
-{
-    let opening_end = put_opening(line, n, b" bad", &[number]);
-    let word_end = put_text(line, opening_end, b" at ");
-    let place_end = put_number(line, word_end, place);
-    put_text(line, place_end, b"\n")
+    buffer.len() < 128
 }

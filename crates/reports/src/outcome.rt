@@ -1,9 +1,9 @@
 // What came of a record, and its line.
-ghost use Rattle.std.specs.Prelude.{◌≡◌, ◌≤◌, length};
-ghost use Rattle.reports.specs.Lines.{in_front};
+ghost use Rattle.std.specs.Prelude.{◌≡◌, ◌≤◌};
 ghost use Rattle.reports.specs.Outcomes.{line_of, over_mark as mark_of, text_length, told_of};
 
-use crate::lines::put_line;
+use crate::lines::Line;
+use std::marker::Model;
 use tables::calls::{Move, Refusal, State};
 
 #[derive(Clone, Copy, Debug, PartialEq, Eq)]
@@ -25,27 +25,51 @@ pub(crate) enum Outcome<'a> {
     End,
 }
 
-impl Outcome<'_> {
-    // Writes the line of record n, and gives its length.
-    pub(crate) fn write(self, n: usize, line: &mut [u8]) -> usize
-        requires room { 128 ≤ length line.old }
-        requires text { text_length (told_of self) ≤ 80 }
-        ensures length { result ≡ length (line_of n (told_of self.entry)) }
-        ensures bytes { line.new ≡ in_front (line_of n (told_of self.entry)) line.old }
+// What is told of a record: its number and what came of it, of which clauses see the line.
+#[derive(Drop)]
+pub(crate) struct Told<'a> {
+    number: usize,
+    outcome: Outcome<'a>,
+}
+
+impl<'a> Model for Told<'a> {
+    ghost use Rattle.std.specs.Prelude.{ℕ, ◌≤◌, List};
+    ghost use Rattle.reports.specs.Outcomes.{line_of, text_length, told_of};
+
+    ghost Value = { List ℕ };
+
+    ghost view = { λ t. line_of t.number (told_of t.outcome) };
+
+    ghost invariant = { λ t. text_length (told_of t.outcome) ≤ 80 };
+}
+
+impl<'a> Told<'a> {
+    // What is told of record number.
+    pub(crate) fn new(number: usize, outcome: Outcome<'a>) -> Told<'a>
+        requires { text_length (told_of outcome) ≤ 80 }
+        ensures { result ≡ line_of number (told_of outcome.entry) }
     {
-        match self {
-            Outcome::Board(size) => put_line(line, n, b" board", &[size], b""),
-            Outcome::Laid(cell) => put_line(line, n, b" laid", &[cell], b""),
-            Outcome::Begun(state) => put_line(line, n, b" begun", &[], over_mark(state)),
+        Told { number, outcome }
+    }
+
+    // Writes the line anew.
+    pub(crate) fn write(&self, line: &mut Line)
+        ensures { line.new ≡ self.now }
+    {
+        let n = self.number;
+        match self.outcome {
+            Outcome::Board(size) => line.write(n, b" board", &[size], b""),
+            Outcome::Laid(cell) => line.write(n, b" laid", &[cell], b""),
+            Outcome::Begun(state) => line.write(n, b" begun", &[], over_mark(state)),
             Outcome::Turned(m, value, state) => {
                 let numbers = [m.cell, m.number, value];
-                put_line(line, n, b" turned", &numbers, over_mark(state))
+                line.write(n, b" turned", &numbers, over_mark(state))
             }
-            Outcome::Play(m) => put_line(line, n, b" play", &[m.cell, m.number], b""),
-            Outcome::Lost => put_line(line, n, b" lost", &[], b""),
-            Outcome::Refused(refusal) => put_line(line, n, b" no", &[refusal.number()], b""),
-            Outcome::Said(text) => put_line(line, n, b" said ", &[], text),
-            Outcome::End => put_line(line, n, b" end", &[], b""),
+            Outcome::Play(m) => line.write(n, b" play", &[m.cell, m.number], b""),
+            Outcome::Lost => line.write(n, b" lost", &[], b""),
+            Outcome::Refused(refusal) => line.write(n, b" no", &[refusal.number()], b""),
+            Outcome::Said(text) => line.write(n, b" said ", &[], text),
+            Outcome::End => line.write(n, b" end", &[], b""),
         }
     }
 }

@@ -3,12 +3,13 @@ ghost use Rattle.std.specs.Prelude.{◌≡◌, [], length, IfOk, Err};
 ghost use Rattle.piles.specs.Numbered.{pile_of};
 ghost use Rattle.tables.specs.Runs.{Stands};
 ghost use Rattle.transcripts.specs.Readings.{as_first, reading, start};
-ghost use Rattle.reports.specs.Steps.{game_found, met, Stepped};
+ghost use Rattle.reports.specs.Steps.{game_found, met, Stepped, Tells};
 ghost use Rattle.transcripts.specs.declared.fault.Fault.{Fault};
 ghost use Rattle.reports.specs.Steps.{game_of as file_game};
 
 use super::Referee;
-use crate::lines::is_small;
+use crate::lines::{Line, is_small};
+use crate::outcome::Told;
 use crate::telling::tell;
 use games::{Game, Twins};
 use piles::pile::Pile;
@@ -41,23 +42,28 @@ impl<'a> Referee<'a> {
         ensures does { Stepped (pile_of self.old.table.game.game) (reading self.old.body) (reading self.new.body) self.old.table.kept self.new.table.kept line.old line.new result }
         ensures again { (e : Fault) → result ≡ Err e → met (length line.new) (reading self.new.body) ≡ Err e }
     {
-        self.read_and_tell(line)
-    }
-
-    // Does the record at the reading place.
-    fn read_and_tell(&mut self, line: &mut [u8]) -> Result<usize, Fault>
-        ensures game { self.new.table.game ≡ self.old.table.game }
-        ensures does { Stepped (pile_of self.old.table.game.game) (reading self.old.body) (reading self.new.body) self.old.table.kept self.new.table.kept line.old line.new result }
-    {
-        let at = self.body.at();
         if is_small(line) {
-            return Err(Fault::SmallBuffer(at));
+            return Err(Fault::SmallBuffer(self.body.at()));
         }
-        let Some(record) = self.body.read()? else {
+        let Some(told) = self.tell_next()? else {
             return Ok(0);
         };
+        let mut text = Line::new();
+        told.write(&mut text);
+        Ok(text.put(line))
+    }
+
+    // Reads a record, calls the table and gives the line of what came of it; there is none behind the end record.
+    pub(crate) fn tell_next(&mut self) -> Result<Option<Told<'a>>, Fault>
+        ensures game { self.new.table.game ≡ self.old.table.game }
+        ensures does { Tells (pile_of self.old.table.game.game) (reading self.old.body) (reading self.new.body) self.old.table.kept self.new.table.kept result }
+    {
+        let at = self.body.at();
+        let Some(record) = self.body.read()? else {
+            return Ok(None);
+        };
         let outcome = tell(&mut self.table, record);
-        Ok(outcome.write(at.number, line))
+        Ok(Some(Told::new(at.number, outcome)))
     }
 }
 
@@ -65,12 +71,6 @@ impl<'a> Referee<'a> {
 fn board(head: Result<Head, Fault>) -> Pile
     ensures { pile_of result ≡ game_found (as_first head) }
 {
-    let named = match head {
-        Ok(head) => head.board(),
-        Err(_) => None,
-    };
-    match named {
-        Some(pile) => pile,
-        None => Pile::TurningCorners(Product::new(Twins::new(0), Twins::new(0))),
-    }
+    let no_cells = Pile::TurningCorners(Product::new(Twins::new(0), Twins::new(0)));
+    head.ok().and_then(Head::board).unwrap_or(no_cells)
 }
