@@ -10,10 +10,8 @@ pub fn products(triples: &[Triple]) -> Section {
     let mut tally = Tally::new();
     for power in POWERS {
         tally.count(product(power, power) == power | (power / 2));
-        for t in triples {
-            if t.a < power {
-                tally.count(Some(product(power, t.a)) == power.checked_mul(t.a));
-            }
+        for t in triples.iter().filter(|t| t.a < power) {
+            tally.count(Some(product(power, t.a)) == power.checked_mul(t.a));
         }
     }
     Section {

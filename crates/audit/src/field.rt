@@ -3,45 +3,35 @@ use crate::sample::Triple;
 use nimbers::{inverse, product, sum};
 use tallies::{Section, Tally};
 
-#[derive(Clone, Copy)]
-pub enum Law {
-    Inverse,
-    Commutative,
-    Associative,
-    Distributive,
+pub fn laws(triples: &[Triple]) -> [Section; 4] {
+    [
+        tried(
+            "the product with the inverse is 1, and 0 has none",
+            triples,
+            |t| match inverse(t.a) {
+                Some(i) => product(t.a, i) == 1,
+                None => t.a == 0,
+            },
+        ),
+        tried("the product is commutative", triples, |t| {
+            product(t.a, t.b) == product(t.b, t.a)
+        }),
+        tried("the product is associative", triples, |t| {
+            product(product(t.a, t.b), t.c) == product(t.a, product(t.b, t.c))
+        }),
+        tried("the product distributes over the sum", triples, |t| {
+            product(t.a, sum(t.b, t.c)) == sum(product(t.a, t.b), product(t.a, t.c))
+        }),
+    ]
 }
 
-impl Law {
-    pub fn tried_on(self, triples: &[Triple]) -> Section {
-        let mut tally = Tally::new();
-        for t in triples {
-            tally.count(self.holds(t));
-        }
-        Section {
-            title: self.title(),
-            tally,
-        }
+// How often a law holds.
+fn tried<F: Fn(&Triple) -> bool>(title: &'static str, triples: &[Triple], holds: F) -> Section
+    requires { F.IsAlwaysCallable holds }
+{
+    let mut tally = Tally::new();
+    for t in triples {
+        tally.count(holds(t));
     }
-
-    fn title(self) -> &'static str {
-        match self {
-            Law::Inverse => "the product with the inverse is 1, and 0 has none",
-            Law::Commutative => "the product is commutative",
-            Law::Associative => "the product is associative",
-            Law::Distributive => "the product distributes over the sum",
-        }
-    }
-
-    fn holds(self, t: &Triple) -> bool {
-        let Triple { a, b, c } = *t;
-        match self {
-            Law::Inverse => match inverse(a) {
-                Some(i) => product(a, i) == 1,
-                None => a == 0,
-            },
-            Law::Commutative => product(a, b) == product(b, a),
-            Law::Associative => product(product(a, b), c) == product(a, product(b, c)),
-            Law::Distributive => product(a, sum(b, c)) == sum(product(a, b), product(a, c)),
-        }
-    }
+    Section { title, tally }
 }

@@ -10,64 +10,28 @@ mod rule;
 mod sample;
 mod worked;
 
-use anyhow::anyhow;
-use field::Law;
-use rule::Row;
-use tallies::Section;
+use anyhow::ensure;
+use tallies::print_all;
 
-// Each of these prints what it tried, and answers whether all agreed.
-fn try_nimbers(rt: &HostRuntime, rows: &[Row]) -> anyhow::Result<bool> {
-    let triples = sample::triples(rt.alloc())?;
-    let sections = [
-        worked::sums(),
-        products::products(rows),
-        products::inverses(rows),
-        fermat::products(&triples),
-        Law::Inverse.tried_on(&triples),
-        Law::Commutative.tried_on(&triples),
-        Law::Associative.tried_on(&triples),
-        Law::Distributive.tried_on(&triples),
-    ];
-    print_sections(rt, &sections)
-}
-
-fn try_games(rt: &HostRuntime) -> anyhow::Result<bool> {
-    let mut sound = true;
-    for findings in audit_games::found(rt.alloc())? {
-        println!(rt; "{findings}")?;
-        sound = sound && findings.all_agreed();
-    }
-    Ok(sound)
-}
-
-fn try_large_piles(rt: &HostRuntime, rows: &[Row]) -> anyhow::Result<bool> {
-    print_sections(rt, &audit_games::largest(rows))
-}
-
-fn try_tables(rt: &HostRuntime) -> anyhow::Result<bool> {
-    print_sections(rt, &audit_play::sections(rt.alloc())?)
-}
-
-fn print_sections(rt: &HostRuntime, sections: &[Section]) -> anyhow::Result<bool> {
-    let mut sound = true;
-    for section in sections {
-        println!(rt; "{section}")?;
-        sound = sound && section.tally.all_agreed();
-    }
-    Ok(sound)
-}
-
+// Prints what was tried, and fails unless all agreed.
 fn run(rt: &HostRuntime) -> anyhow::Result<()> {
     let rows = rule::rows(rt.alloc())?;
-    let nimbers = try_nimbers(rt, &rows)?;
-    let games = try_games(rt)?;
-    let large_piles = try_large_piles(rt, &rows)?;
-    let tables = try_tables(rt)?;
-    if nimbers && games && large_piles && tables {
-        Ok(())
-    } else {
-        Err(anyhow!("some did not agree"))
-    }
+    let triples = sample::triples(rt.alloc())?;
+    let nimbers = [
+        worked::sums(),
+        products::products(&rows),
+        products::inverses(&rows),
+        fermat::products(&triples),
+    ];
+    let agreed = [
+        print_all(rt, &nimbers)?,
+        print_all(rt, &field::laws(&triples))?,
+        print_all(rt, &audit_games::found(rt.alloc())?)?,
+        print_all(rt, &audit_games::largest(&rows))?,
+        print_all(rt, &audit_play::sections(rt.alloc())?)?,
+    ];
+    ensure!(agreed.iter().all(|agreed| *agreed), "some did not agree");
+    Ok(())
 }
 
 fn main(rt: HostRuntime) -> anyhow::Result<()> {

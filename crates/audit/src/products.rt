@@ -32,10 +32,5 @@ pub fn inverses(rows: &[Row]) -> Section {
 fn place_of_one(row: &Row) -> Option<u32>
     ensures { MatchOption result ((k : ℕ) → k < 256 → slice_index row.now k ≢ 1) (λ b. slice_index row.now b ≡ 1) }
 {
-    for b in 0..=255u8 {
-        if row[b as usize] == 1 {
-            return Some(u32::from(b));
-        }
-    }
-    None
+    (0..256).find(|b| row[*b as usize] == 1)
 }

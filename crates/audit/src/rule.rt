@@ -33,7 +33,7 @@ fn next_product(earlier: &[Row], row: &Row, b: u8) -> Option<u8> {
     for above in earlier {
         exclude(&mut excluded, above, row, b);
     }
-    smallest_missing(&excluded)
+    u8::try_from(smallest_missing(&excluded)?).ok()
 }
 
 // Marks (a' ⊗ b) ^ (a ⊗ b') ^ (a' ⊗ b') for each b' < b, where `above` is the row of a'.
@@ -45,14 +45,10 @@ fn exclude(excluded: &mut [bool; 256], above: &Row, row: &Row, b: u8) {
     }
 }
 
-fn smallest_missing(excluded: &[bool; 256]) -> Option<u8>
+// Flags and no list: a list of some ten thousand numbers would be searched for each smaller one.
+fn smallest_missing(excluded: &[bool; 256]) -> Option<usize>
     ensures below { MatchOption result ((k : ℕ) → k < 256 → slice_index_or excluded.now k false ≡ true) (λ n. (k : ℕ) → k < n → slice_index_or excluded.now k false ≡ true) }
     ensures missing { IfSome result (λ n. slice_index_or excluded.now n false ≡ false) }
 {
-    for n in 0..=255u8 {
-        if !excluded[n as usize] {
-            return Some(n);
-        }
-    }
-    None
+    excluded.iter().position(|taken| !*taken)
 }

@@ -1,5 +1,6 @@
 // Numbers to try the laws on.
 use std::alloc::{AllocError, Global};
+use tallies::Generator;
 
 const EDGES: [u32; 11] = [
     0,
@@ -34,39 +35,22 @@ pub fn triples(heap: Global) -> Result<Vec<Triple>, AllocError> {
             }
         }
     }
-    let mut generator = Generator { state: 1 };
+    let mut generator = Generator::new(1);
     for _ in 0..GENERATED {
-        triples.push(generator.triple())?;
+        triples.push(next_triple(&mut generator))?;
     }
     Ok(triples)
 }
 
-// Marsaglia's xorshift of 32 bits.
-#[derive(Drop)]
-struct Generator {
-    state: u32,
+// Each length from 1 to 32 bits comes about equally often.
+fn next_number(generator: &mut Generator) -> u32 {
+    let shift = generator.step() >> 27;
+    generator.step() >> shift
 }
 
-impl Generator {
-    fn step(&mut self) -> u32 {
-        let mut x = self.state;
-        x ^= x << 13;
-        x ^= x >> 17;
-        x ^= x << 5;
-        self.state = x;
-        x
-    }
-
-    // A number of any length: the lengths from 1 to 32 bits come about equally often.
-    fn number(&mut self) -> u32 {
-        let shift = self.step() >> 27;
-        self.step() >> shift
-    }
-
-    fn triple(&mut self) -> Triple {
-        let a = self.number();
-        let b = self.number();
-        let c = self.number();
-        Triple { a, b, c }
-    }
+fn next_triple(generator: &mut Generator) -> Triple {
+    let a = next_number(generator);
+    let b = next_number(generator);
+    let c = next_number(generator);
+    Triple { a, b, c }
 }

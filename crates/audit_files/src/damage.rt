@@ -1,8 +1,9 @@
 // Files that are cut, and files in which something is wrong.
-use crate::writing::Board;
-use crate::{compare, known, whole, writing};
+use crate::comparison::Comparison;
+use crate::writing::{Board, Kind, Transcript};
+use crate::{known, whole};
 use std::alloc::{AllocError, Global};
-use tallies::{Section, Tally};
+use tallies::Section;
 
 // All kinds, and some that are unknown: the last but one is 7 in its lower byte.
 const KINDS: [u16; 11] = [0, 1, 2, 3, 4, 5, 6, 7, 8, 263, 65_535];
@@ -18,68 +19,57 @@ const BYTES: [u8; 5] = [0, 31, 32, 126, 127];
 
 // A whole file of each pile, up to each of its bytes.
 pub fn cut(heap: Global) -> Result<Section, AllocError> {
-    let mut tally = Tally::new();
+    let mut comparison = Comparison::new(heap);
     for pile in 1..7 {
-        let mut file = whole::game(heap, Board::new(pile, 2, 2, 3))?;
-        for _ in 0..file.len() {
-            let _ = file.pop();
-            compare(heap, &mut tally, &file)?;
+        let file = whole::game(heap, Board::new(pile, 2, 2, 3))?;
+        for size in 0..file.len() {
+            comparison.compare(&file[..size])?;
         }
     }
-    Ok(Section {
-        title: "files cut at every byte",
-        tally,
-    })
+    Ok(comparison.section("files cut at every byte"))
 }
 
 // Records of every kind, as they may be and as they may not.
 pub fn damaged(heap: Global) -> Result<Section, AllocError> {
-    let mut tally = Tally::new();
+    let mut comparison = Comparison::new(heap);
     for kind in KINDS {
         for length in LENGTHS {
             for byte in BYTES {
-                try_record(heap, &mut tally, kind, &[byte; 258][0..length.min(258)])?;
+                try_record(&mut comparison, kind, &[byte; 258][0..length.min(258)])?;
             }
         }
     }
     for pile in PILES {
         let [low, high] = pile.to_le_bytes();
-        try_record(heap, &mut tally, 1, &[low, high, 2, 0, 2, 0, 3, 0, 0, 0])?;
+        let body = [low, high, 2, 0, 2, 0, 3, 0, 0, 0];
+        try_record(&mut comparison, Kind::Head as u16, &body)?;
     }
     for byte in 0..=255 {
-        try_record(heap, &mut tally, 6, &[byte, 32, 126])?;
-        try_record(heap, &mut tally, 6, &[32, 126, byte])?;
+        try_record(&mut comparison, Kind::Remark as u16, &[byte, 32, 126])?;
+        try_record(&mut comparison, Kind::Remark as u16, &[32, 126, byte])?;
     }
     // Bytes after the end record: the same file again, up to each of its bytes.
     let mut file = known::rugs(heap)?;
     for byte in known::rugs(heap)? {
         file.push(byte)?;
-        compare(heap, &mut tally, &file)?;
+        comparison.compare(&file)?;
     }
-    Ok(Section {
-        title: "damaged files",
-        tally,
-    })
+    Ok(comparison.section("damaged files"))
 }
 
 // A record as the first one and after some others, each with an end and without, and the same one byte short.
-fn try_record(heap: Global, tally: &mut Tally, kind: u16, body: &[u8]) -> Result<(), AllocError> {
-    for first in [true, false] {
-        let mut file = Vec::new(heap);
-        if !first {
-            writing::head(&mut file, Board::new(2, 2, 2, 0))?;
-            writing::lay(&mut file, 0)?;
-            writing::begin(&mut file)?;
-        }
-        writing::raw(&mut file, body.len().min(65_535) as u16, kind, body)?;
-        compare(heap, tally, &file)?;
-        let size = file.len();
-        writing::end(&mut file)?;
-        compare(heap, tally, &file)?;
-        file.truncate(size.saturating_sub(1));
-        compare(heap, tally, &file)?;
-        writing::end(&mut file)?;
-        compare(heap, tally, &file)?;
+fn try_record(comparison: &mut Comparison, kind: u16, body: &[u8]) -> Result<(), AllocError> {
+    let heap = comparison.heap;
+    for mut file in [Transcript::new(heap), Transcript::begun(heap, 0)?] {
+        file.raw(body.len().min(65_535) as u16, kind, body)?;
+        comparison.compare(&file.bytes)?;
+        let size = file.bytes.len();
+        file.end()?;
+        comparison.compare(&file.bytes)?;
+        file.bytes.truncate(size.saturating_sub(1));
+        comparison.compare(&file.bytes)?;
+        file.end()?;
+        comparison.compare(&file.bytes)?;
     }
     Ok(())
 }

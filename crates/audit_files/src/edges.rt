@@ -1,50 +1,43 @@
 // Files at the edges of the size that a file may have.
-use crate::writing::Board;
-use crate::{compare, writing};
+use crate::comparison::Comparison;
+use crate::writing::Transcript;
 use std::alloc::{AllocError, Global};
-use tallies::{Section, Tally};
+use tallies::Section;
+
+// The longest remark.
+const TEXT: [u8; 80] = [b'x'; 80];
 
 // Whole files, with one byte more, and cut at their last bytes.
 pub fn files(heap: Global) -> Result<Section, AllocError> {
-    let mut tally = Tally::new();
+    let mut comparison = Comparison::new(heap);
     for size in [65_534, 65_535, 65_536, 65_539] {
-        for length in [0, 1, 76] {
-            let mut file = filled(heap, size, length)?;
-            compare(heap, &mut tally, &file)?;
+        for remark in [None, Some(&TEXT[..1]), Some(&TEXT[..76])] {
+            let mut file = filled(heap, size, remark)?;
+            comparison.compare(&file)?;
             file.push(0)?;
-            compare(heap, &mut tally, &file)?;
+            comparison.compare(&file)?;
             for _ in 0..5 {
                 let _ = file.pop();
-                compare(heap, &mut tally, &file)?;
+                comparison.compare(&file)?;
             }
         }
     }
-    Ok(Section {
-        title: "files at the edges of size",
-        tally,
-    })
+    Ok(comparison.section("files at the edges of size"))
 }
 
-// A whole file of that size, filled with remarks of a length up to 76, or with advice where that is 0.
-fn filled(heap: Global, size: usize, length: usize) -> Result<Vec<u8>, AllocError> {
-    let mut file = Vec::new(heap);
-    writing::head(&mut file, Board::new(2, 2, 2, 0))?;
-    writing::lay(&mut file, 3)?;
-    writing::begin(&mut file)?;
-    let text = [b'x'; 80];
-    for _ in 0..size {
-        // How long the remark before the end can be.
-        let left = size.saturating_sub(file.len()).saturating_sub(8);
-        if left < length.saturating_add(4) {
-            writing::remark(&mut file, &text[0..left.min(80)])?;
-            break;
-        }
-        if length == 0 {
-            writing::advise(&mut file)?;
-        } else {
-            writing::remark(&mut file, &text[0..length.min(80)])?;
+// A whole file of that size, filled with a remark again and again, or with advice where there is none.
+fn filled(heap: Global, size: usize, remark: Option<&[u8]>) -> Result<Vec<u8>, AllocError> {
+    let mut file = Transcript::begun(heap, 3)?;
+    // The bytes in front of a last remark and the end, of which each has four of its own.
+    let left = size.saturating_sub(file.bytes.len()).saturating_sub(8);
+    let each = 4 + remark.map_or(0, |text| text.len());
+    for _ in 0..left / each {
+        match remark {
+            Some(text) => file.remark(text)?,
+            None => file.advise()?,
         }
     }
-    writing::end(&mut file)?;
-    Ok(file)
+    file.remark(&TEXT[..(left % each).min(80)])?;
+    file.end()?;
+    Ok(file.bytes)
 }

@@ -1,4 +1,6 @@
 // A plain reading of a transcript: from its bytes to the lines that it should give.
+ghost use Rattle.std.specs.Prelude.{◌<◌, length, IfOk};
+
 use games::Game;
 use piles::Pile;
 use std::alloc::{AllocError, Global};
@@ -8,191 +10,229 @@ use tables::table::Table;
 // The most bytes that a file may have.
 const MOST: usize = 65_535;
 
-// More records than such a file has room for.
-const RECORDS: u32 = 20_000;
+// What may be wrong with a file, by its number in a line.
+#[derive(Clone, Copy)]
+enum Fault {
+    CutShort = 10,
+    UnknownKind = 11,
+    WrongLength = 12,
+    HeadMisplaced = 13,
+    NoPile = 14,
+    BadText = 15,
+    TooLong = 16,
+    NoEnd = 17,
+    AfterEnd = 18,
+}
 
-// The lines of a whole file.
-pub fn lines(heap: Global, file: &[u8]) -> Result<Vec<u8>, AllocError> {
-    let mut lines = Vec::new(heap);
-    if file.len() > MOST {
-        add_fault(heap, &mut lines, 1, 16, 0)?;
-        return Ok(lines);
-    }
-    match head(file) {
-        Err(fault) => add_fault(heap, &mut lines, 1, fault, 0)?,
-        Ok(pile) => {
-            let size = pile.size();
-            add(&mut lines, &format!(in heap; "1 board {size}")?)?;
-            follow(heap, &mut lines, &mut Table::new(pile), file)?;
+// What a record says.
+#[derive(Clone, Copy)]
+enum Record<'a> {
+    Head { pile: u32, w: u32, h: u32, set: u32 },
+    Lay(u32),
+    Begin,
+    Turn(Move),
+    Advise,
+    Remark(&'a [u8]),
+    End,
+}
+
+impl<'a> Record<'a> {
+    // The record of a kind and a body.
+    fn new(kind: u32, body: &'a [u8]) -> Result<Record<'a>, Fault> {
+        match (kind, body) {
+            (1, &[p, q, w, v, h, g, a, b, c, d]) => Ok(Record::Head {
+                pile: number(&[p, q]),
+                w: number(&[w, v]),
+                h: number(&[h, g]),
+                set: number(&[a, b, c, d]),
+            }),
+            (2, &[c, d]) => Ok(Record::Lay(number(&[c, d]))),
+            (3, []) => Ok(Record::Begin),
+            (4, &[c, d, i, j, k, l]) => Ok(Record::Turn(Move {
+                cell: number(&[c, d]),
+                number: number(&[i, j, k, l]),
+            })),
+            (5, []) => Ok(Record::Advise),
+            (6, text) if text.len() <= 80 => Ok(Record::Remark(text)),
+            (7, []) => Ok(Record::End),
+            (1..=7, _) => Err(Fault::WrongLength),
+            _ => Err(Fault::UnknownKind),
         }
-    }
-    Ok(lines)
-}
-
-// Adds a line.
-fn add(lines: &mut Vec<u8>, line: &String) -> Result<(), AllocError> {
-    lines.extend_from_slice(line.as_bytes())?;
-    lines.extend_from_slice(b"\n")
-}
-
-// Adds the line of a fault.
-fn add_fault(
-    heap: Global,
-    lines: &mut Vec<u8>,
-    n: u32,
-    fault: u32,
-    place: usize,
-) -> Result<(), AllocError> {
-    add(lines, &format!(in heap; "{n} bad {fault} at {place}")?)
-}
-
-// The pile that the first record names, or the number of that record's fault.
-fn head(file: &[u8]) -> Result<Pile, u32> {
-    let (kind, body, _) = split(file)?;
-    let (1, [p, q, w, v, h, g, set @ ..]) = (kind, body) else {
-        return Err(13);
-    };
-    match Pile::new(
-        number(&[*p, *q]),
-        number(&[*w, *v]),
-        number(&[*h, *g]),
-        number(set),
-    ) {
-        Some(pile) => Ok(pile),
-        None => Err(14),
     }
 }
 
 // The number that bytes stand for, the lowest byte first.
 fn number(bytes: &[u8]) -> u32 {
-    let mut number = 0;
-    for byte in bytes.iter().rev() {
-        number = number << 8 | u32::from(*byte);
-    }
-    number
+    bytes
+        .iter()
+        .rev()
+        .fold(0, |number, byte| number << 8 | u32::from(*byte))
 }
 
-// The kind and the body of the first record, with what follows it, or the number of its fault.
-fn split(rest: &[u8]) -> Result<(u32, &[u8], &[u8]), u32> {
-    if rest.is_empty() {
-        return Err(17);
+// A record, and what follows it.
+#[derive(Clone, Copy)]
+struct Taken<'a> {
+    record: Record<'a>,
+    rest: &'a [u8],
+}
+
+// Takes the first record.
+fn take_record(bytes: &[u8]) -> Result<Taken<'_>, Fault>
+    ensures { IfOk result (λ taken. length taken.rest.now < length bytes.now) }
+{
+    if bytes.is_empty() {
+        return Err(Fault::NoEnd);
     }
-    let [l, m, k, j, tail @ ..] = rest else {
-        return Err(10);
+    let [l, m, k, j, tail @ ..] = bytes else {
+        return Err(Fault::CutShort);
     };
     let length = number(&[*l, *m]) as usize;
-    if tail.len() < length {
-        return Err(10);
-    }
-    let kind = number(&[*k, *j]);
-    let fits = match kind {
-        1 => length == 10,
-        2 => length == 2,
-        3 | 5 | 7 => length == 0,
-        4 => length == 6,
-        6 => length <= 80,
-        _ => return Err(11),
-    };
-    if !fits {
-        return Err(12);
-    }
-    let (body, after) = tail.split_at(length);
-    Ok((kind, body, after))
+    let (body, rest) = tail.split_at_checked(length).ok_or(Fault::CutShort)?;
+    let record = Record::new(number(&[*k, *j]), body)?;
+    Ok(Taken { record, rest })
 }
 
-// The lines from the second record on.
-fn follow(
+// Takes the first record, where that is the head: its pile, and what follows it.
+fn take_head(bytes: &[u8]) -> Result<(Pile, &[u8]), Fault> {
+    let Taken { record, rest } = take_record(bytes)?;
+    let Record::Head { pile, w, h, set } = record else {
+        return Err(Fault::HeadMisplaced);
+    };
+    let pile = Pile::new(pile, w, h, set).ok_or(Fault::NoPile)?;
+    Ok((pile, rest))
+}
+
+// Takes the first record of those behind the head.
+fn take_later(bytes: &[u8]) -> Result<Taken<'_>, Fault>
+    ensures { IfOk result (λ taken. length taken.rest.now < length bytes.now) }
+{
+    let taken = take_record(bytes)?;
+    match taken.record {
+        Record::Head { .. } => Err(Fault::HeadMisplaced),
+        Record::Remark(text) if !text.iter().all(|byte| matches!(byte, 32..=126)) => {
+            Err(Fault::BadText)
+        }
+        _ => Ok(taken),
+    }
+}
+
+// Lines, each behind its number.
+#[derive(Drop)]
+struct Numbered {
     heap: Global,
-    lines: &mut Vec<u8>,
+    text: String,
+    count: u32,
+}
+
+impl Numbered {
+    // Adds a line.
+    fn add(&mut self, words: &str) -> Result<(), AllocError> {
+        self.count = self.count.saturating_add(1);
+        let n = self.count;
+        writeln!(self.text, "{n} {words}")
+    }
+
+    // Adds the line of a fault.
+    fn add_fault(&mut self, fault: Fault, place: usize) -> Result<(), AllocError> {
+        let number = fault as u32;
+        self.add(&format!(in self.heap; "bad {number} at {place}")?)
+    }
+}
+
+// The lines of a whole file.
+pub fn lines(heap: Global, file: &[u8]) -> Result<String, AllocError> {
+    let mut lines = Numbered {
+        heap,
+        text: String::new(heap),
+        count: 0,
+    };
+    if file.len() > MOST {
+        lines.add_fault(Fault::TooLong, 0)?;
+        return Ok(lines.text);
+    }
+    match take_head(file) {
+        Err(fault) => lines.add_fault(fault, 0)?,
+        Ok((pile, rest)) => {
+            let size = pile.size();
+            lines.add(&format!(in heap; "board {size}")?)?;
+            follow(&mut lines, &mut Table::new(pile), file, rest)?;
+        }
+    }
+    Ok(lines.text)
+}
+
+// Adds the lines of the records behind the head.
+fn follow(
+    lines: &mut Numbered,
     table: &mut Table<Pile>,
     file: &[u8],
+    mut rest: &[u8],
 ) -> Result<(), AllocError> {
-    let mut rest = file.get(14..).unwrap_or(&[]);
-    let mut ended = false;
-    for n in 2..RECORDS {
-        if ended && rest.is_empty() {
+    loop {
+        let taken = match take_later(rest) {
+            Ok(taken) => taken,
+            Err(fault) => return lines.add_fault(fault, file.len().saturating_sub(rest.len())),
+        };
+        lines.add(&words(lines.heap, table, taken.record)?)?;
+        rest = taken.rest;
+        if let Record::End = taken.record {
             break;
         }
-        let (kind, body, after) = match later(rest, ended) {
-            Ok(record) => record,
-            Err(fault) => {
-                let place = file.len().saturating_sub(rest.len());
-                return add_fault(heap, lines, n, fault, place);
-            }
-        };
-        let words = words(heap, table, kind, body)?;
-        add(lines, &format!(in heap; "{n} {words}")?)?;
-        ended = kind == 7;
-        rest = after;
     }
-    Ok(())
-}
-
-// As split, for a record that is not the first; ended says whether the end record came before it.
-fn later(rest: &[u8], ended: bool) -> Result<(u32, &[u8], &[u8]), u32> {
-    if ended {
-        return Err(18);
+    if rest.is_empty() {
+        Ok(())
+    } else {
+        lines.add_fault(Fault::AfterEnd, file.len().saturating_sub(rest.len()))
     }
-    let (kind, body, after) = split(rest)?;
-    if kind == 1 {
-        return Err(13);
-    }
-    if kind == 6 {
-        for byte in body {
-            if *byte < 32 || *byte > 126 {
-                return Err(15);
-            }
-        }
-    }
-    Ok((kind, body, after))
 }
 
 // What the line of a sound record says after its number.
-fn words(
-    heap: Global,
-    table: &mut Table<Pile>,
-    kind: u32,
-    body: &[u8],
-) -> Result<String, AllocError> {
-    match (kind, body) {
-        (2, cell) => {
-            let cell = number(cell);
-            match table.lay(cell) {
-                Ok(_) => format!(in heap; "laid {cell}"),
-                Err(refusal) => refused(heap, refusal),
-            }
+fn words(heap: Global, table: &mut Table<Pile>, record: Record) -> Result<String, AllocError> {
+    match answered(heap, table, record) {
+        Ok(words) => words,
+        Err(refusal) => {
+            let number = refusal.number();
+            format!(in heap; "no {number}")
         }
-        (3, _) => match table.begin() {
-            Ok(Answer::Begun(State::Over)) => format!(in heap; "begun over"),
-            Ok(_) => format!(in heap; "begun"),
-            Err(refusal) => refused(heap, refusal),
-        },
-        (4, [c, d, i @ ..]) => turned(heap, table, number(&[*c, *d]), number(i)),
-        (5, _) => match table.advise() {
-            Ok(Answer::Advice(Some(Move { cell, number }))) => {
-                format!(in heap; "play {cell} {number}")
-            }
-            Ok(_) => format!(in heap; "lost"),
-            Err(refusal) => refused(heap, refusal),
-        },
-        (6, text) => {
-            let text = std::str::from_utf8(text).unwrap_or("");
-            format!(in heap; "said {text}")
-        }
-        _ => format!(in heap; "end"),
     }
 }
 
-// What the line of a turn says.
-fn turned(
+// The words of a record that is no call, or of a call that is not refused.
+fn answered(
     heap: Global,
     table: &mut Table<Pile>,
-    cell: u32,
-    number: u32,
-) -> Result<String, AllocError> {
-    if let Err(refusal) = table.turn(Move { cell, number }) {
-        return refused(heap, refusal);
-    }
+    record: Record,
+) -> Result<Result<String, AllocError>, Refusal> {
+    Ok(match record {
+        Record::Lay(cell) => {
+            table.lay(cell)?;
+            format!(in heap; "laid {cell}")
+        }
+        Record::Begin => match table.begin()? {
+            Answer::Begun(State::Over) => format!(in heap; "begun over"),
+            _ => format!(in heap; "begun"),
+        },
+        Record::Turn(m) => {
+            table.turn(m)?;
+            turned(heap, table, m)
+        }
+        Record::Advise => match table.advise()? {
+            Answer::Advice(Some(Move { cell, number })) => {
+                format!(in heap; "play {cell} {number}")
+            }
+            _ => format!(in heap; "lost"),
+        },
+        Record::Remark(text) => {
+            let text = std::str::from_utf8(text).unwrap_or("");
+            format!(in heap; "said {text}")
+        }
+        Record::Head { .. } | Record::End => format!(in heap; "end"),
+    })
+}
+
+// The words of a turn that was made.
+fn turned(heap: Global, table: &mut Table<Pile>, m: Move) -> Result<String, AllocError> {
+    let Move { cell, number } = m;
     let Ok(Answer::Worth(value)) = table.value() else {
         return format!(in heap; "turned");
     };
@@ -200,10 +240,4 @@ fn turned(
         State::Over => format!(in heap; "turned {cell} {number} {value} over"),
         _ => format!(in heap; "turned {cell} {number} {value}"),
     }
-}
-
-// What the line of a refused call says.
-fn refused(heap: Global, refusal: Refusal) -> Result<String, AllocError> {
-    let number = refusal.number();
-    format!(in heap; "no {number}")
 }

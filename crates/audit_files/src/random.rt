@@ -1,24 +1,20 @@
 // Files of records in random order, and whole files with a random byte in one place; the same in each run.
-use crate::writing::Board;
-use crate::{compare, whole, writing};
+use crate::comparison::Comparison;
+use crate::whole;
+use crate::writing::{Board, Transcript};
 use std::alloc::{AllocError, Global};
-use tallies::{Section, Tally};
+use tallies::{Generator, Section};
 
-// Marsaglia's xorshift of 32 bits.
+// Makes files by numbers that look random.
 #[derive(Drop)]
-struct Generator {
-    state: u32,
+struct Maker {
+    generator: Generator,
 }
 
-impl Generator {
+impl Maker {
     // A number from 0 to end - 1.
     fn below(&mut self, end: u16) -> u16 {
-        let mut x = self.state;
-        x ^= x << 13;
-        x ^= x >> 17;
-        x ^= x << 5;
-        self.state = x;
-        (x % u32::from(end).max(1)) as u16
+        (self.generator.step() % u32::from(end).max(1)) as u16
     }
 
     // Any byte.
@@ -38,33 +34,33 @@ impl Generator {
     }
 
     // Adds a record, mostly a sound one.
-    fn record(&mut self, file: &mut Vec<u8>) -> Result<(), AllocError> {
+    fn add(&mut self, file: &mut Transcript) -> Result<(), AllocError> {
         let cell = self.below(12);
         match self.below(64) {
-            0 => writing::head(file, self.board()),
-            1 => writing::raw(file, self.below(12), self.below(9), &[self.byte(), 0]),
-            2 => writing::end(file),
-            3..=5 => writing::begin(file),
-            6..=11 => writing::remark(file, &[32 + self.byte() % 96, 65, 32]),
-            12..=18 => writing::advise(file),
-            19..=39 => writing::lay(file, cell),
-            _ => writing::turn(file, cell, u32::from(self.below(4))),
+            0 => file.head(self.board()),
+            1 => file.raw(self.below(12), self.below(9), &[self.byte(), 0]),
+            2 => file.end(),
+            3..=5 => file.begin(),
+            6..=11 => file.remark(&[32 + self.byte() % 96, 65, 32]),
+            12..=18 => file.advise(),
+            19..=39 => file.lay(cell),
+            _ => file.turn(cell, u32::from(self.below(4))),
         }
     }
 
     // A row of records.
     fn records(&mut self, heap: Global) -> Result<Vec<u8>, AllocError> {
-        let mut file = Vec::new(heap);
+        let mut file = Transcript::new(heap);
         if self.below(8) > 0 {
-            writing::head(&mut file, self.board())?;
+            file.head(self.board())?;
         }
         for _ in 0..self.below(48) {
-            self.record(&mut file)?;
+            self.add(&mut file)?;
         }
         if self.below(4) > 0 {
-            writing::end(&mut file)?;
+            file.end()?;
         }
-        Ok(file)
+        Ok(file.bytes)
     }
 
     // A whole file in which one byte was written over.
@@ -82,16 +78,13 @@ impl Generator {
 
 // Five hundred files of either sort.
 pub fn files(heap: Global) -> Result<Section, AllocError> {
-    let mut tally = Tally::new();
-    let mut generator = Generator {
-        state: 2_463_534_242,
+    let mut comparison = Comparison::new(heap);
+    let mut maker = Maker {
+        generator: Generator::new(2_463_534_242),
     };
     for _ in 0..500 {
-        compare(heap, &mut tally, &generator.records(heap)?)?;
-        compare(heap, &mut tally, &generator.damaged(heap)?)?;
+        comparison.compare(&maker.records(heap)?)?;
+        comparison.compare(&maker.damaged(heap)?)?;
     }
-    Ok(Section {
-        title: "random files",
-        tally,
-    })
+    Ok(comparison.section("random files"))
 }

@@ -1,34 +1,61 @@
 // The lines of a file by steps of a referee, with what a step must leave.
 use reports::{Referee, write_fault};
 use std::alloc::{AllocError, Global};
+use transcripts::fault::Fault;
 use transcripts::unread::Unread;
 
-// More steps than a file has records.
+// More steps than a file has records: a referee that goes on beyond them is stopped here.
 const STEPS: u32 = 20_000;
 
 // What a buffer holds before a step.
-const MARK: u8 = 35;
+const MARK: u8 = b'#';
+
+// What a step gives.
+#[derive(Clone, Copy)]
+enum Given<'a> {
+    // A line, behind which more may follow.
+    Line(&'a [u8]),
+    // The line of a fault.
+    Fault(&'a [u8]),
+    // No line: the file is at its end.
+    End,
+}
 
 // The lines that steps give, to the end or to the first step that leaves something wrong.
 pub fn lines(heap: Global, file: &[u8]) -> Result<Vec<u8>, AllocError> {
     let mut referee = Referee::new(heap, Unread::new(file))?;
     let mut lines = Vec::new(heap);
     for _ in 0..STEPS {
-        let mut line = [MARK; 140];
-        let given = if refuses_small(&mut referee) {
-            step(&mut referee, &mut line)
-        } else {
-            None
-        };
-        let Some((given, more)) = given else {
-            break;
-        };
-        lines.extend_from_slice(line.get(0..given).unwrap_or(&[]))?;
-        if !more || !is_marked(line.get(given..).unwrap_or(&[])) {
-            break;
+        let mut buffer = [MARK; 140];
+        match step(&mut referee, &mut buffer) {
+            Some(Given::Line(line)) => lines.extend_from_slice(line)?,
+            Some(Given::Fault(line)) => {
+                lines.extend_from_slice(line)?;
+                break;
+            }
+            Some(Given::End) | None => break,
         }
     }
     Ok(lines)
+}
+
+// What a step gives in a buffer of marks; none where it leaves something wrong.
+fn step<'a>(referee: &mut Referee, buffer: &'a mut [u8]) -> Option<Given<'a>> {
+    if !refuses_small(referee) {
+        return None;
+    }
+    match referee.step(buffer) {
+        Ok(0) => Some(Given::End),
+        Ok(length) => {
+            let (line, behind) = buffer.split_at_checked(length)?;
+            is_marked(behind).then_some(Given::Line(line))
+        }
+        Err(fault) if meets_again(referee, fault, buffer) => {
+            let length = write_fault(fault, buffer).ok()?;
+            buffer.get(..length).map(Given::Fault)
+        }
+        Err(_) => None,
+    }
 }
 
 // Whether a buffer of 127 bytes is refused with 19, and left as it is.
@@ -40,24 +67,14 @@ fn refuses_small(referee: &mut Referee) -> bool {
     }
 }
 
-// The length of the line of a step or of its fault, and whether more may follow; none where a fault is not met again.
-fn step(referee: &mut Referee, line: &mut [u8]) -> Option<(usize, bool)> {
-    match referee.step(line) {
-        Ok(given) => Some((given, given > 0)),
-        Err(fault) => match referee.step(line) {
-            Err(again) if again.number() == fault.number() && is_marked(line) => {
-                Some((write_fault(fault, line).unwrap_or(0), false))
-            }
-            _ => None,
-        },
+// Whether a step meets a fault again, and leaves a buffer of marks as it is.
+fn meets_again(referee: &mut Referee, fault: Fault, buffer: &mut [u8]) -> bool {
+    match referee.step(buffer) {
+        Err(again) => again.number() == fault.number() && is_marked(buffer),
+        Ok(_) => false,
     }
 }
 
 fn is_marked(bytes: &[u8]) -> bool {
-    for byte in bytes {
-        if *byte != MARK {
-            return false;
-        }
-    }
-    true
+    bytes.iter().all(|byte| *byte == MARK)
 }

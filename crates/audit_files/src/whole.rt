@@ -1,12 +1,12 @@
 // Files of whole games: coins are laid, calls are refused, and the sides play to the end.
-use crate::writing::Board;
-use crate::{compare, writing};
+use crate::comparison::Comparison;
+use crate::writing::{Board, Transcript};
 use games::Game;
 use piles::Pile;
 use std::alloc::{AllocError, Global};
 use tables::calls::{Answer, Move};
 use tables::table::Table;
-use tallies::{Section, Tally};
+use tallies::Section;
 
 // Widths of boards; 0 and those above 64 leave a game with no cells. The last is 2 in its lower byte.
 const WIDTHS: [u16; 8] = [0, 1, 2, 3, 4, 64, 65, 258];
@@ -19,92 +19,102 @@ const TURNS: u32 = 30;
 
 // A game on each pile of each size.
 pub fn files(heap: Global) -> Result<Section, AllocError> {
-    let mut tally = Tally::new();
+    let mut comparison = Comparison::new(heap);
     for pile in 1..7 {
         for w in WIDTHS {
             for h in WIDTHS {
-                compare(heap, &mut tally, &game(heap, Board::new(pile, w, h, SET))?)?;
+                comparison.compare(&game(heap, Board::new(pile, w, h, SET))?)?;
             }
         }
     }
-    Ok(Section {
-        title: "whole files",
-        tally,
-    })
+    Ok(comparison.section("whole files"))
 }
 
 // The file of a game on a board.
 pub fn game(heap: Global, board: Board) -> Result<Vec<u8>, AllocError> {
-    let mut file = Vec::new(heap);
-    writing::head(&mut file, board)?;
+    let mut file = Transcript::new(heap);
+    file.head(board)?;
     let Board { pile, w, h, set } = board;
     if let Some(pile) = Pile::new(u32::from(pile), u32::from(w), u32::from(h), set) {
-        let mut table = Table::new(pile);
-        let size = pile.size().min(4096) as u16;
-        lay_coins(&mut file, &mut table, size)?;
-        refusals(&mut file, size)?;
-        play(&mut file, &mut table)?;
-        refusals(&mut file, size)?;
-    }
-    writing::end(&mut file)?;
-    Ok(file)
-}
-
-// Lays two of three among the first coins, and the last one of a large board, and begins.
-fn lay_coins(file: &mut Vec<u8>, table: &mut Table<Pile>, size: u16) -> Result<(), AllocError> {
-    refusals(file, size)?;
-    for cell in 0..30 {
-        if cell < size && cell % 3 != 1 {
-            writing::lay(file, cell)?;
-            let _ = table.lay(u32::from(cell));
-        }
-    }
-    if size > 30 {
-        writing::lay(file, size - 1)?;
-        let _ = table.lay(u32::from(size - 1));
-    }
-    writing::lay(file, 0)?;
-    writing::begin(file)?;
-    let _ = table.begin();
-    Ok(())
-}
-
-// Calls of which nearly all are refused, and remarks.
-fn refusals(file: &mut Vec<u8>, size: u16) -> Result<(), AllocError> {
-    writing::lay(file, size)?;
-    writing::lay(file, u16::MAX)?;
-    writing::turn(file, size, 0)?;
-    writing::turn(file, 1, 0)?;
-    writing::turn(file, 0, u32::MAX)?;
-    writing::turn(file, size.saturating_sub(1), 1 << 22)?;
-    writing::remark(file, b"")?;
-    writing::remark(file, b" ~ not so! ~ ")
-}
-
-// Plays by advice, and from a lost position by the first move that may be made.
-fn play(file: &mut Vec<u8>, table: &mut Table<Pile>) -> Result<(), AllocError> {
-    writing::begin(file)?;
-    for _ in 0..TURNS {
-        let Some(m) = next(table) else {
-            break;
+        let mut session = Session {
+            file: &mut file,
+            size: pile.size().min(4096) as u16,
+            table: Table::new(pile),
         };
-        writing::advise(file)?;
-        writing::turn(file, m.cell.min(65_535) as u16, m.number)?;
-        let _ = table.turn(m);
+        session.lay_coins()?;
+        session.refusals()?;
+        session.play()?;
+        session.refusals()?;
     }
-    writing::advise(file)
+    file.end()?;
+    Ok(file.bytes)
 }
 
-// The move to make, unless the table is over.
-fn next(table: &mut Table<Pile>) -> Option<Move> {
-    if let Ok(Answer::Advice(Some(m))) = table.advise() {
-        return Some(m);
+// A table, and the file in which its calls are written.
+#[derive(Drop)]
+struct Session<'a> {
+    file: &'a mut Transcript,
+    // The cells of the board.
+    size: u16,
+    table: Table<Pile>,
+}
+
+impl Session<'_> {
+    // Lays two of three among the first coins, and the last one of a large board, and begins.
+    fn lay_coins(&mut self) -> Result<(), AllocError> {
+        self.refusals()?;
+        for cell in (0..self.size.min(30)).filter(|cell| cell % 3 != 1) {
+            self.lay(cell)?;
+        }
+        if self.size > 30 {
+            self.lay(self.size - 1)?;
+        }
+        self.lay(0)?;
+        self.file.begin()?;
+        let _ = self.table.begin();
+        Ok(())
     }
-    for cell in 0..4096 {
-        let m = Move { cell, number: 0 };
-        if table.weigh(m).is_ok() {
+
+    // Lays a coin.
+    fn lay(&mut self, cell: u16) -> Result<(), AllocError> {
+        let _ = self.table.lay(u32::from(cell));
+        self.file.lay(cell)
+    }
+
+    // Writes calls of which nearly all are refused, and remarks.
+    fn refusals(&mut self) -> Result<(), AllocError> {
+        let size = self.size;
+        self.file.lay(size)?;
+        self.file.lay(u16::MAX)?;
+        self.file.turn(size, 0)?;
+        self.file.turn(1, 0)?;
+        self.file.turn(0, u32::MAX)?;
+        self.file.turn(size.saturating_sub(1), 1 << 22)?;
+        self.file.remark(b"")?;
+        self.file.remark(b" ~ not so! ~ ")
+    }
+
+    // Plays by advice, and from a lost position by the first move that may be made.
+    fn play(&mut self) -> Result<(), AllocError> {
+        self.file.begin()?;
+        for _ in 0..TURNS {
+            let Some(m) = self.next() else {
+                break;
+            };
+            self.file.advise()?;
+            self.file.turn(m.cell.min(65_535) as u16, m.number)?;
+            let _ = self.table.turn(m);
+        }
+        self.file.advise()
+    }
+
+    // The move to make, unless the table is over.
+    fn next(&mut self) -> Option<Move> {
+        if let Ok(Answer::Advice(Some(m))) = self.table.advise() {
             return Some(m);
         }
+        (0..4096)
+            .map(|cell| Move { cell, number: 0 })
+            .find(|m| self.table.weigh(*m).is_ok())
     }
-    None
 }

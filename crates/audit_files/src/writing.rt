@@ -1,5 +1,5 @@
 // Writes transcripts record by record, sound or not.
-use std::alloc::AllocError;
+use std::alloc::{AllocError, Global};
 
 // What a head says.
 #[derive(Clone, Copy)]
@@ -16,48 +16,88 @@ impl Board {
     }
 }
 
-// A record of any length and kind, whatever its body.
-pub fn raw(file: &mut Vec<u8>, length: u16, kind: u16, body: &[u8]) -> Result<(), AllocError> {
-    file.extend_from_slice(&length.to_le_bytes())?;
-    file.extend_from_slice(&kind.to_le_bytes())?;
-    file.extend_from_slice(body)
+// The kinds of records, by their numbers.
+#[derive(Clone, Copy)]
+pub enum Kind {
+    Head = 1,
+    Lay = 2,
+    Begin = 3,
+    Turn = 4,
+    Advise = 5,
+    Remark = 6,
+    End = 7,
 }
 
-// The record that names the pile.
-pub fn head(file: &mut Vec<u8>, board: Board) -> Result<(), AllocError> {
-    raw(file, 10, 1, &board.pile.to_le_bytes())?;
-    file.extend_from_slice(&board.w.to_le_bytes())?;
-    file.extend_from_slice(&board.h.to_le_bytes())?;
-    file.extend_from_slice(&board.set.to_le_bytes())
+// A file to which records are added.
+#[derive(Drop)]
+pub struct Transcript {
+    pub bytes: Vec<u8>,
 }
 
-// A lay of a coin.
-pub fn lay(file: &mut Vec<u8>, cell: u16) -> Result<(), AllocError> {
-    raw(file, 2, 2, &cell.to_le_bytes())
-}
+impl Transcript {
+    pub fn new(heap: Global) -> Transcript {
+        Transcript {
+            bytes: Vec::new(heap),
+        }
+    }
 
-// The end of the laying.
-pub fn begin(file: &mut Vec<u8>) -> Result<(), AllocError> {
-    raw(file, 0, 3, &[])
-}
+    // A file of Rugs on two by two cells, which has begun with a coin on one of them.
+    pub fn begun(heap: Global, cell: u16) -> Result<Transcript, AllocError> {
+        let mut file = Transcript::new(heap);
+        file.head(Board::new(2, 2, 2, 0))?;
+        file.lay(cell)?;
+        file.begin()?;
+        Ok(file)
+    }
 
-// A move.
-pub fn turn(file: &mut Vec<u8>, cell: u16, number: u32) -> Result<(), AllocError> {
-    raw(file, 6, 4, &cell.to_le_bytes())?;
-    file.extend_from_slice(&number.to_le_bytes())
-}
+    // A record of any length and kind, whatever its body.
+    pub fn raw(&mut self, length: u16, kind: u16, body: &[u8]) -> Result<(), AllocError> {
+        self.bytes.extend_from_slice(&length.to_le_bytes())?;
+        self.bytes.extend_from_slice(&kind.to_le_bytes())?;
+        self.bytes.extend_from_slice(body)
+    }
 
-// A question for advice.
-pub fn advise(file: &mut Vec<u8>) -> Result<(), AllocError> {
-    raw(file, 0, 5, &[])
-}
+    // A record whose length is that of its body.
+    fn record(&mut self, kind: Kind, body: &[u8]) -> Result<(), AllocError> {
+        self.raw(body.len().min(65_535) as u16, kind as u16, body)
+    }
 
-// A remark, also one that is too long.
-pub fn remark(file: &mut Vec<u8>, text: &[u8]) -> Result<(), AllocError> {
-    raw(file, text.len().min(65_535) as u16, 6, text)
-}
+    // The record that names the pile.
+    pub fn head(&mut self, board: Board) -> Result<(), AllocError> {
+        self.raw(10, Kind::Head as u16, &board.pile.to_le_bytes())?;
+        self.bytes.extend_from_slice(&board.w.to_le_bytes())?;
+        self.bytes.extend_from_slice(&board.h.to_le_bytes())?;
+        self.bytes.extend_from_slice(&board.set.to_le_bytes())
+    }
 
-// The last record.
-pub fn end(file: &mut Vec<u8>) -> Result<(), AllocError> {
-    raw(file, 0, 7, &[])
+    // A lay of a coin.
+    pub fn lay(&mut self, cell: u16) -> Result<(), AllocError> {
+        self.record(Kind::Lay, &cell.to_le_bytes())
+    }
+
+    // The end of the laying.
+    pub fn begin(&mut self) -> Result<(), AllocError> {
+        self.record(Kind::Begin, &[])
+    }
+
+    // A move.
+    pub fn turn(&mut self, cell: u16, number: u32) -> Result<(), AllocError> {
+        self.raw(6, Kind::Turn as u16, &cell.to_le_bytes())?;
+        self.bytes.extend_from_slice(&number.to_le_bytes())
+    }
+
+    // A question for advice.
+    pub fn advise(&mut self) -> Result<(), AllocError> {
+        self.record(Kind::Advise, &[])
+    }
+
+    // A remark, also one that is too long.
+    pub fn remark(&mut self, text: &[u8]) -> Result<(), AllocError> {
+        self.record(Kind::Remark, text)
+    }
+
+    // The last record.
+    pub fn end(&mut self) -> Result<(), AllocError> {
+        self.record(Kind::End, &[])
+    }
 }

@@ -1,8 +1,8 @@
 // What was tried of some games, and the lines that tell it.
-ghost use Rattle.std.specs.Prelude.{◌≡◌, true};
+ghost use Rattle.std.specs.Prelude.{◌&&◌, ◌==◌};
 
 use std::fmt;
-use tallies::Tally;
+use tallies::{Tally, Tried};
 
 #[derive(Clone, Copy)]
 pub struct Findings {
@@ -27,15 +27,12 @@ impl Findings {
             off_board: Tally::new(),
         }
     }
+}
 
-    pub fn all_agreed(&self) -> bool
-        ensures sizes { result ≡ true → self.now.sizes.differed ≡ 0 }
-        ensures values { result ≡ true → self.now.values.differed ≡ 0 }
-        ensures counts { result ≡ true → self.now.counts.differed ≡ 0 }
-        ensures moves { result ≡ true → self.now.moves.differed ≡ 0 }
-        ensures replies { result ≡ true → self.now.replies.differed ≡ 0 }
-        ensures off_board { result ≡ true → self.now.off_board.differed ≡ 0 }
-    {
+impl Tried for Findings {
+    ghost agrees = { λ f. (f.sizes.differed == 0) && (f.values.differed == 0) && (f.counts.differed == 0) && (f.moves.differed == 0) && (f.replies.differed == 0) && (f.off_board.differed == 0) };
+
+    fn all_agreed(&self) -> bool {
         self.sizes.all_agreed()
             && self.values.all_agreed()
             && self.counts.all_agreed()

@@ -5,25 +5,26 @@ pub mod findings;
 mod limits;
 mod nested;
 mod numbered;
-mod rests;
+pub mod rests;
 mod shipped;
 mod trial;
 
 use findings::Findings;
+use games::{Ruler, Turtles, Twins};
 use std::alloc::Global;
 use tallies::Section;
 
 // The shipped games, the numbered piles, and piles in piles.
 pub fn found(heap: Global) -> anyhow::Result<Vec<Findings>> {
-    let widths = shipped::widths(heap)?;
-    let mut found = Vec::new(heap);
-    found.push(shipped::twins(&widths, heap)?)?;
-    found.push(shipped::turtles(&widths, heap)?)?;
-    found.push(shipped::ruler(&widths, heap)?)?;
-    found.push(shipped::take(&widths, heap)?)?;
-    found.push(numbered::piles(heap)?)?;
-    found.push(nested::piles(heap)?)?;
-    Ok(found)
+    let found = [
+        shipped::game("Twins", heap, Twins::new)?,
+        shipped::game("Turtles", heap, Turtles::new)?,
+        shipped::game("Ruler", heap, Ruler::new)?,
+        shipped::take(heap)?,
+        numbered::piles(heap)?,
+        nested::piles(heap)?,
+    ];
+    Ok(found.to_vec(heap)?)
 }
 
 // The largest piles; the rows have the nim products of the numbers below 256.

@@ -2,7 +2,7 @@
 use crate::findings::Findings;
 use crate::shipped::cells;
 use crate::trial::{Choice, Trial};
-use anyhow::anyhow;
+use anyhow::Context;
 use games::{Ruler, Take, Turtles, Twins};
 use piles::{Mix, Pile, Product};
 use std::alloc::Global;
@@ -88,12 +88,8 @@ fn try_products_in_mixtures(trial: &mut Trial, w: u32, h: u32) -> anyhow::Result
 fn try_numbered(trial: &mut Trial, w: u32, h: u32) -> anyhow::Result<()> {
     let a = cells(w);
     let b = cells(h);
-    let Some(rugs) = Pile::new(2, w, h, SET) else {
-        return Err(anyhow!("pile 2 is missing"));
-    };
-    let Some(by_twins) = Pile::new(6, w, h, SET) else {
-        return Err(anyhow!("pile 6 is missing"));
-    };
+    let rugs = Pile::new(2, w, h, SET).context("pile 2 is missing")?;
+    let by_twins = Pile::new(6, w, h, SET).context("pile 6 is missing")?;
     let both = Mix::new(by_twins, rugs);
     trial.examine(&both, mixed(multiplied(mixed(a, b), 4), multiplied(a, b)))?;
     trial.examine(

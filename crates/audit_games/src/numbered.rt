@@ -2,7 +2,7 @@
 use crate::findings::Findings;
 use crate::shipped::{SETS, cells};
 use crate::trial::{Choice, Trial};
-use anyhow::anyhow;
+use anyhow::Context;
 use games::Game;
 use piles::Pile;
 use std::alloc::Global;
@@ -31,13 +31,11 @@ pub fn piles(heap: Global) -> anyhow::Result<Findings> {
 }
 
 fn try_pile(trial: &mut Trial, number: u32, w: u32, h: u32, set: u32) -> anyhow::Result<()> {
-    let Some(pile) = Pile::new(number, w, h, set) else {
-        return Err(anyhow!("a number from 1 to 6 has no pile"));
-    };
+    let pile = Pile::new(number, w, h, set).context("a number from 1 to 6 has no pile")?;
     trial.examine(&pile, cells_of(number, cells(w), cells(h)))
 }
 
-// How many cells the pile of that number has, from those of its two rows.
+// How many cells the pile of that number has, from those of its two rows. By number, since the numbers are tried too.
 fn cells_of(number: u32, w: u32, h: u32) -> u32 {
     match number {
         5 => w.saturating_mul(w).saturating_add(h.saturating_mul(h)),

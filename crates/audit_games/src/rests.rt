@@ -15,47 +15,32 @@ pub fn rests<G: Game>(
 ) -> Result<Vec<u32>, AllocError>
     ensures { IfOk result (λ v. (vec_len v ≡ (G.Game.rules game.now).count c) × ((i : ℕ) → i < vec_len v → slice_index v.items i ≡ sum_held c ((G.Game.rules game.now).holds c i) (λ d. slice_index values.now d))) }
 {
-    let mut rests = Vec::new(heap);
-    for i in 0..game.count(c) {
-        rests.push(rest(game, c, i, values))?;
-    }
-    Ok(rests)
+    (0..game.count(c))
+        .map(|i| rest(game, c, i, values))
+        .collect(heap)
 }
 
 // The nim sum of the values of the cells below c that move i at c turns.
 fn rest<G: Game>(game: &G, c: u32, i: u32, values: &[u32]) -> u32
     ensures { result ≡ sum_held c ((G.Game.rules game.now).holds c i) (λ d. slice_index values.now d) }
 {
-    let mut rest = 0;
-    for d in 0..c {
-        if game.turns(c, i, d) {
-            rest ^= found(values, d);
-        }
-    }
-    rest
+    let turned = (0..c).filter(|d| game.turns(c, i, *d));
+    turned.fold(0, |rest, d| rest ^ found(values, d))
 }
 
 // The value that was found for d.
 fn found(values: &[u32], d: u32) -> u32
     ensures { result ≡ slice_index values.now d }
 {
-    match values.get(d as usize) {
-        Some(value) => *value,
-        None => 0,
-    }
+    values.get(d as usize).copied().unwrap_or(0)
 }
 
 // The lowest number of a move with that rest.
-pub fn lowest_move(rests: &[u32], rest: u32) -> Option<usize>
+pub(crate) fn lowest_move(rests: &[u32], rest: u32) -> Option<usize>
     ensures found { IfSome result (λ i. (i < length rests.now) × (slice_index rests.now i ≡ rest)) }
     ensures lowest { MatchOption result (LacksBelow rests.now rest (length rests.now)) (LacksBelow rests.now rest) }
 {
-    for (i, r) in rests.iter().enumerate() {
-        if *r == rest {
-            return Some(i);
-        }
-    }
-    None
+    rests.iter().position(|r| *r == rest)
 }
 
 // The smallest number that is not a rest.
@@ -63,10 +48,21 @@ pub fn smallest_missing(rests: &[u32]) -> Option<u32>
     ensures missing { IfSome result (λ v. LacksBelow rests.now v (length rests.now)) }
     ensures below { MatchOption result ((n : ℕ) → n < 2 ^ 32 - 1 → Has rests.now n) (λ v. (n : ℕ) → n < v → Has rests.now n) }
 {
-    for n in 0..u32::MAX {
-        if lowest_move(rests, n).is_none() {
-            return Some(n);
-        }
+    (0..u32::MAX).find(|n| lowest_move(rests, *n).is_none())
+}
+
+#[cfg(test)]
+mod tests {
+    use super::{rests, smallest_missing};
+    use games::Twins;
+    use std::test::Fail;
+
+    // Each move at cell 3 of Twins turns a lower cell too.
+    #[test]
+    fn rests_of_twins(rt: HostRuntime) -> Result<(), Fail> {
+        let found = rests(&Twins::new(5), 3, &[0, 1, 2], rt.alloc())?;
+        assert_eq!(rt; found.len(), 3);
+        assert_eq!(rt; smallest_missing(&found), Some(3));
+        Ok(())
     }
-    None
 }

@@ -3,20 +3,11 @@ ghost use Rattle.std.specs.Prelude.{◌≡◌, if◌then◌else◌, nat_le};
 
 use crate::findings::Findings;
 use crate::trial::{Choice, Trial};
-use games::{Ruler, Take, Turtles, Twins};
-use std::alloc::{AllocError, Global};
+use games::{Game, Take};
+use std::alloc::Global;
 
 // Sets of amounts for Take.
 pub const SETS: [u32; 8] = [0, 1, 2, 3, 5, 0b1011, 0x8000_0001, u32::MAX];
-
-pub fn widths(heap: Global) -> Result<Vec<u32>, AllocError> {
-    let mut widths = Vec::new(heap);
-    for width in 0..=65 {
-        widths.push(width)?;
-    }
-    widths.push(u32::MAX)?;
-    Ok(widths)
-}
 
 // How many cells a row of that width has.
 pub fn cells(width: u32) -> u32
@@ -25,36 +16,33 @@ pub fn cells(width: u32) -> u32
     if width <= 64 { width } else { 0 }
 }
 
-pub fn twins(widths: &[u32], heap: Global) -> anyhow::Result<Findings> {
-    let mut trial = Trial::new("Twins", Choice::Lowest, heap);
-    for w in widths {
-        trial.examine(&Twins::new(*w), cells(*w))?;
-    }
+// A game at every width.
+pub fn game<G: Game + Drop, F: Fn(u32) -> G>(
+    title: &'static str,
+    heap: Global,
+    made: F,
+) -> anyhow::Result<Findings>
+    requires { F.IsAlwaysCallable made }
+{
+    let mut trial = Trial::new(title, Choice::Lowest, heap);
+    try_widths(&mut trial, made)?;
     Ok(trial.findings)
 }
 
-pub fn turtles(widths: &[u32], heap: Global) -> anyhow::Result<Findings> {
-    let mut trial = Trial::new("Turtles", Choice::Lowest, heap);
-    for w in widths {
-        trial.examine(&Turtles::new(*w), cells(*w))?;
-    }
-    Ok(trial.findings)
-}
-
-pub fn ruler(widths: &[u32], heap: Global) -> anyhow::Result<Findings> {
-    let mut trial = Trial::new("Ruler", Choice::Lowest, heap);
-    for w in widths {
-        trial.examine(&Ruler::new(*w), cells(*w))?;
-    }
-    Ok(trial.findings)
-}
-
-pub fn take(widths: &[u32], heap: Global) -> anyhow::Result<Findings> {
+// Take with each of the sets.
+pub fn take(heap: Global) -> anyhow::Result<Findings> {
     let mut trial = Trial::new("Take", Choice::Lowest, heap);
     for set in SETS {
-        for w in widths {
-            trial.examine(&Take::new(*w, set), cells(*w))?;
-        }
+        try_widths(&mut trial, |w| Take::new(w, set))?;
     }
     Ok(trial.findings)
+}
+
+fn try_widths<G: Game + Drop, F: Fn(u32) -> G>(trial: &mut Trial, made: F) -> anyhow::Result<()>
+    requires { F.IsAlwaysCallable made }
+{
+    for w in (0..=65).chain([u32::MAX]) {
+        trial.examine(&made(w), cells(w))?;
+    }
+    Ok(())
 }

@@ -69,12 +69,8 @@ fn is_counted<G: Game>(game: &G, cells: u32, c: u32) -> bool
     ensures { result ≡ true → (G.Game.rules game.now).count c ≤ (G.Game.rules game.now).ceiling }
 {
     let count = game.count(c);
-    for d in 0..cells {
-        if game.turns(c, count, d) || game.turns(c, u32::MAX, d) {
-            return false;
-        }
-    }
-    count <= game.ceiling()
+    let is_move = |d| game.turns(c, count, d) || game.turns(c, u32::MAX, d);
+    count <= game.ceiling() && !(0..cells).any(is_move)
 }
 
 // Every move turns its own cell and none above it.
@@ -88,12 +84,8 @@ fn try_moves<G: Game>(game: &G, cells: u32, c: u32, tally: &mut Tally) {
 fn turns_above<G: Game>(game: &G, cells: u32, c: u32, i: u32) -> bool
     ensures { result ≡ false → (d : ℕ) → c < d → d < cells → (G.Game.rules game.now).holds c i d ≡ false }
 {
-    for d in c.saturating_add(1)..cells.saturating_add(2) {
-        if game.turns(c, i, d) {
-            return true;
-        }
-    }
-    game.turns(c, i, u32::MAX)
+    let mut above = c.saturating_add(1)..cells.saturating_add(2);
+    above.any(|d| game.turns(c, i, d)) || game.turns(c, i, u32::MAX)
 }
 
 // What the replies at a cell have to fit.
@@ -140,10 +132,6 @@ pub fn is_off_board<G: Game>(game: &G, c: u32) -> bool
     ensures count { result ≡ true → (G.Game.rules game.now).count c ≡ 0 }
     ensures value { result ≡ true → (G.Game.rules game.now).worth c ≡ 0 }
 {
-    for n in 0..4 {
-        if game.turns(c, n, c) || game.turns(c, 0, n) || game.reply(c, n).is_some() {
-            return false;
-        }
-    }
-    game.count(c) == 0 && game.value(c) == 0
+    let is_met = |n| game.turns(c, n, c) || game.turns(c, 0, n) || game.reply(c, n).is_some();
+    game.count(c) == 0 && game.value(c) == 0 && !(0..4).any(is_met)
 }

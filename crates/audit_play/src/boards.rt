@@ -1,73 +1,47 @@
 // The games that are tried.
 use games::{Ruler, Take, Twins};
 use piles::{Mix, Pile, Product};
-use std::alloc::{AllocError, Global};
-
-// A numbered pile, by what it is made from.
-#[derive(Clone, Copy)]
-pub struct Recipe {
-    number: u32,
-    w: u32,
-    h: u32,
-    set: u32,
-}
-
-impl Recipe {
-    fn new(number: u32, w: u32, h: u32, set: u32) -> Recipe {
-        Recipe { number, w, h, set }
-    }
-}
 
 // At most twelve cells: every position of these is searched.
-pub fn small() -> [Recipe; 10] {
+pub fn small() -> [Option<Pile>; 10] {
     [
-        Recipe::new(1, 3, 4, 0),
-        Recipe::new(1, 4, 3, 0),
-        Recipe::new(2, 3, 4, 0),
-        Recipe::new(3, 4, 3, 0),
-        Recipe::new(3, 5, 2, 0),
-        Recipe::new(4, 3, 4, 0b101),
-        Recipe::new(5, 2, 2, 0),
-        Recipe::new(5, 3, 1, 0),
-        Recipe::new(6, 2, 1, 0),
-        Recipe::new(6, 1, 2, 0),
+        Pile::new(1, 3, 4, 0),
+        Pile::new(1, 4, 3, 0),
+        Pile::new(2, 3, 4, 0),
+        Pile::new(3, 4, 3, 0),
+        Pile::new(3, 5, 2, 0),
+        Pile::new(4, 3, 4, 0b101),
+        Pile::new(5, 2, 2, 0),
+        Pile::new(5, 3, 1, 0),
+        Pile::new(6, 2, 1, 0),
+        Pile::new(6, 1, 2, 0),
     ]
 }
 
 // At most nine cells: from these every game is played to its end.
-pub fn tiny() -> [Recipe; 6] {
+pub fn tiny() -> [Option<Pile>; 6] {
     [
-        Recipe::new(1, 3, 3, 0),
-        Recipe::new(2, 3, 2, 0),
-        Recipe::new(3, 3, 2, 0),
-        Recipe::new(4, 2, 4, 0b11),
-        Recipe::new(5, 2, 2, 0),
-        Recipe::new(6, 1, 1, 0),
+        Pile::new(1, 3, 3, 0),
+        Pile::new(2, 3, 2, 0),
+        Pile::new(3, 3, 2, 0),
+        Pile::new(4, 2, 4, 0b11),
+        Pile::new(5, 2, 2, 0),
+        Pile::new(6, 1, 1, 0),
     ]
 }
 
 // Boards for runs of calls, some with coins past the first words; the last has no cells.
-pub fn large() -> [Recipe; 8] {
+pub fn large() -> [Option<Pile>; 8] {
     [
-        Recipe::new(1, 8, 8, 0),
-        Recipe::new(2, 5, 13, 0),
-        Recipe::new(3, 6, 6, 0),
-        Recipe::new(3, 4, 3, 0),
-        Recipe::new(4, 7, 10, 0b1_0110),
-        Recipe::new(5, 6, 6, 0),
-        Recipe::new(6, 5, 4, 0),
-        Recipe::new(3, 64, 65, 0),
+        Pile::new(1, 8, 8, 0),
+        Pile::new(2, 5, 13, 0),
+        Pile::new(3, 6, 6, 0),
+        Pile::new(3, 4, 3, 0),
+        Pile::new(4, 7, 10, 0b1_0110),
+        Pile::new(5, 6, 6, 0),
+        Pile::new(6, 5, 4, 0),
+        Pile::new(3, 64, 65, 0),
     ]
-}
-
-pub fn made(heap: Global, recipes: &[Recipe]) -> Result<Vec<Pile>, AllocError> {
-    let mut piles = Vec::new(heap);
-    for r in recipes {
-        if let Some(pile) = Pile::new(r.number, r.w, r.h, r.set) {
-            piles.push(pile)?;
-        }
-    }
-    Ok(piles)
 }
 
 // A pile with no number: a mixture by a product.

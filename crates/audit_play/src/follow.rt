@@ -1,6 +1,6 @@
 // Games in which side 1 follows advice and side 2 tries every answer, to the end.
 use crate::boards;
-use crate::search::{Search, begun};
+use crate::search::{Search, Turn, begun};
 use games::{Game, Turtles};
 use std::alloc::{AllocError, Global};
 use tables::calls::{Answer, Side, State};
@@ -12,7 +12,7 @@ const STEPS: u32 = 1_000_000;
 
 pub fn followed(heap: Global) -> Result<Section, AllocError> {
     let mut tally = Tally::new();
-    for pile in boards::made(heap, &boards::tiny())? {
+    for pile in boards::tiny().into_iter().flatten() {
         try_games(heap, pile, &mut tally)?;
     }
     try_games(heap, Turtles::new(5), &mut tally)?;
@@ -83,25 +83,22 @@ fn answer<G: Game + Copy + Drop>(
     search: &Search,
     tally: &mut Tally,
 ) -> Result<(), AllocError> {
-    let mut stuck = true;
-    for turn in &search.turns {
-        if table.heads(turn.place.cell) {
-            stuck = false;
-            let mut next = *table;
-            match next.turn(turn.place) {
-                Ok(Answer::Turned(State::Playing)) => waiting.push(next)?,
-                Ok(Answer::Turned(_)) => tally.count(won_by_first(&next)),
-                _ => tally.count(false),
-            }
-        }
-    }
-    if stuck {
+    let may = |turn: &Turn| table.heads(turn.place.cell);
+    if !search.turns.iter().any(may) {
         tally.count(false);
+    }
+    for turn in search.turns.iter().filter(|turn| may(turn)) {
+        let mut next = *table;
+        match next.turn(turn.place) {
+            Ok(Answer::Turned(State::Playing)) => waiting.push(next)?,
+            Ok(Answer::Turned(_)) => tally.count(won_by_first(&next)),
+            _ => tally.count(false),
+        }
     }
     Ok(())
 }
 
 // Whether the table is over and side 2 has no move.
 fn won_by_first<G: Game>(table: &Table<G>) -> bool {
-    matches!((table.state(), table.side()), (State::Over, Side::Second))
+    table.state() == State::Over && table.side() == Side::Second
 }

@@ -3,7 +3,7 @@
 
 mod boards;
 mod follow;
-mod generator;
+mod random;
 mod record;
 mod runs;
 mod search;
@@ -12,10 +12,12 @@ mod values;
 use std::alloc::{AllocError, Global};
 use tallies::Section;
 
+// Each goes over boards of its own: one walk for all three would take a trait with a generic method, and be longer.
 pub fn sections(heap: Global) -> Result<Vec<Section>, AllocError> {
-    let mut sections = Vec::new(heap);
-    sections.push(search::positions(heap)?)?;
-    sections.push(follow::followed(heap)?)?;
-    sections.push(runs::calls(heap)?)?;
-    Ok(sections)
+    let sections = [
+        search::positions(heap)?,
+        follow::followed(heap)?,
+        runs::calls(heap)?,
+    ];
+    sections.to_vec(heap)
 }

@@ -5,207 +5,198 @@ use std::alloc::{AllocError, Global};
 use tables::calls::{Answer, Call, Move, Refusal, Side, State};
 use tables::table::Table;
 
-// The reply that a call should have.
+// What a call should be answered.
 #[derive(Clone, Copy)]
 pub enum Expected {
-    Refused(u32),
-    Laid,
-    Begun(State),
-    Turned(State),
-    Worth(u32),
+    Exactly(Answer),
     // A move that leaves the value 0, where the value is not 0.
     Advice,
 }
 
+// A cell: its value, and whether its coin shows heads.
+#[derive(Clone, Copy)]
+struct Cell {
+    value: u32,
+    heads: bool,
+}
+
 #[derive(Drop)]
 pub struct Record {
-    values: Vec<u32>,
-    // Whether each coin shows heads.
-    coins: Vec<bool>,
+    cells: Vec<Cell>,
     state: State,
     // Whether the number of turns that were made is odd.
     odd: bool,
 }
 
 impl Record {
-    // Of a new table.
-    pub fn new<G: Game>(heap: Global, game: &G) -> Result<Record, AllocError> {
-        let mut coins = Vec::new(heap);
-        for _ in 0..game.size() {
-            coins.push(false)?;
-        }
-        Ok(Record {
-            values: values::values(heap, game)?,
-            coins,
+    // Of a new table, unless a cell has no value.
+    pub fn new<G: Game>(heap: Global, game: &G) -> Result<Option<Record>, AllocError> {
+        let Some(values) = values::values(heap, game)? else {
+            return Ok(None);
+        };
+        let cells = values
+            .iter()
+            .map(|value| Cell {
+                value: *value,
+                heads: false,
+            })
+            .collect(heap)?;
+        Ok(Some(Record {
+            cells,
             state: State::Setting,
             odd: false,
-        })
+        }))
     }
 
     // As the record of a new table.
     pub fn clear(&mut self) {
-        for coin in self.coins.iter_mut() {
-            *coin = false;
+        for cell in self.cells.iter_mut() {
+            cell.heads = false;
         }
         self.state = State::Setting;
         self.odd = false;
     }
 
     fn heads(&self, c: u32) -> bool {
-        self.coins.get(c as usize) == Some(&true)
+        self.cells.get(c as usize).is_some_and(|cell| cell.heads)
     }
 
     // The first head from c on, or c where there is none.
     pub fn head_from(&self, c: u32) -> u32 {
-        for (d, coin) in (0..4096u32).zip(&self.coins) {
-            if d >= c && *coin {
-                return d;
-            }
-        }
-        c
-    }
-
-    fn on_board(&self, c: u32) -> bool {
-        (c as usize) < self.coins.len()
+        (0..4096)
+            .zip(&self.cells)
+            .find(|(d, cell)| *d >= c && cell.heads)
+            .map_or(c, |(d, _)| d)
     }
 
     // The nim sum of the values of the heads.
     fn worth(&self) -> u32 {
-        let mut sum = 0;
-        for (value, coin) in self.values.iter().zip(&self.coins) {
-            if *coin {
-                sum ^= *value;
-            }
-        }
-        sum
+        self.cells
+            .iter()
+            .filter(|cell| cell.heads)
+            .fold(0, |sum, cell| sum ^ cell.value)
     }
 
     // Turns the coins of a move.
     fn turn<G: Game>(&mut self, game: &G, m: Move) {
-        for (d, coin) in (0..game.size()).zip(self.coins.iter_mut()) {
+        for (d, cell) in (0..game.size()).zip(self.cells.iter_mut()) {
             if game.turns(m.cell, m.number, d) {
-                *coin = !*coin;
+                cell.heads = !cell.heads;
             }
         }
     }
 
     // The value that a move would leave.
-    fn worth_after<G: Game>(&mut self, game: &G, m: Move) -> u32 {
-        self.turn(game, m);
-        let worth = self.worth();
-        self.turn(game, m);
-        worth
+    fn worth_after<G: Game>(&self, game: &G, m: Move) -> u32 {
+        (0..game.size())
+            .zip(&self.cells)
+            .filter(|(d, cell)| cell.heads != game.turns(m.cell, m.number, *d))
+            .fold(0, |sum, (_, cell)| sum ^ cell.value)
     }
 
     // Goes on to playing, or over where no head has a move.
     fn settle<G: Game>(&mut self, game: &G) -> State {
-        self.state = State::Over;
-        for (c, coin) in (0..game.size()).zip(&self.coins) {
-            if *coin && game.count(c) > 0 {
-                self.state = State::Playing;
-            }
-        }
+        let can_move = (0..game.size())
+            .zip(&self.cells)
+            .any(|(c, cell)| cell.heads && game.count(c) > 0);
+        self.state = if can_move {
+            State::Playing
+        } else {
+            State::Over
+        };
         self.state
     }
 
-    fn lay(&mut self, c: u32) -> Expected {
-        match self.coins.get_mut(c as usize) {
-            None => Expected::Refused(3),
-            Some(coin) => {
-                if *coin {
-                    return Expected::Refused(4);
-                }
-                *coin = true;
-                Expected::Laid
-            }
+    fn lay(&mut self, c: u32) -> Result<Expected, Refusal> {
+        let cell = self.cells.get_mut(c as usize).ok_or(Refusal::OffBoard)?;
+        if cell.heads {
+            return Err(Refusal::Heads);
         }
+        cell.heads = true;
+        Ok(Expected::Exactly(Answer::Laid))
     }
 
-    // The number of the refusal of a move.
-    fn fault<G: Game>(&self, game: &G, m: Move) -> Option<u32> {
-        if !self.on_board(m.cell) {
-            Some(3)
-        } else if !self.heads(m.cell) {
-            Some(5)
+    // Whether a move may be made.
+    fn allow<G: Game>(&self, game: &G, m: Move) -> Result<(), Refusal> {
+        let cell = self.cells.get(m.cell as usize).ok_or(Refusal::OffBoard)?;
+        if !cell.heads {
+            Err(Refusal::Tails)
         } else if m.number >= game.count(m.cell) {
-            Some(6)
+            Err(Refusal::NoMove)
         } else {
-            None
+            Ok(())
         }
     }
 
-    fn make<G: Game>(&mut self, game: &G, m: Move) -> Expected {
-        if let Some(number) = self.fault(game, m) {
-            return Expected::Refused(number);
-        }
+    fn make<G: Game>(&mut self, game: &G, m: Move) -> Result<Expected, Refusal> {
+        self.allow(game, m)?;
         self.turn(game, m);
         self.odd = !self.odd;
-        Expected::Turned(self.settle(game))
+        Ok(Expected::Exactly(Answer::Turned(self.settle(game))))
     }
 
-    fn weigh<G: Game>(&mut self, game: &G, m: Move) -> Expected {
-        if let Some(number) = self.fault(game, m) {
-            return Expected::Refused(number);
-        }
-        Expected::Worth(self.worth_after(game, m))
+    fn weigh<G: Game>(&self, game: &G, m: Move) -> Result<Expected, Refusal> {
+        self.allow(game, m)?;
+        Ok(Expected::Exactly(Answer::Worth(self.worth_after(game, m))))
     }
 
     // Does a call, and says what the table should answer.
-    pub fn reply<G: Game>(&mut self, game: &G, call: Call) -> Expected {
-        if self.coins.is_empty() {
-            return Expected::Refused(1);
+    pub fn reply<G: Game>(&mut self, game: &G, call: Call) -> Result<Expected, Refusal> {
+        if self.cells.is_empty() {
+            return Err(Refusal::NoCells);
         }
         match (call, self.state) {
             (Call::Lay(c), State::Setting) => self.lay(c),
-            (Call::Begin, State::Setting) => Expected::Begun(self.settle(game)),
+            (Call::Begin, State::Setting) => {
+                Ok(Expected::Exactly(Answer::Begun(self.settle(game))))
+            }
             (Call::Turn(m), State::Playing) => self.make(game, m),
             (Call::Weigh(m), State::Playing) => self.weigh(game, m),
-            (Call::Value, _) => Expected::Worth(self.worth()),
-            (Call::Advise, State::Playing) => Expected::Advice,
-            _ => Expected::Refused(2),
+            (Call::Value, _) => Ok(Expected::Exactly(Answer::Worth(self.worth()))),
+            (Call::Advise, State::Playing) => Ok(Expected::Advice),
+            _ => Err(Refusal::NotNow),
         }
     }
 
     // Whether the table answered as it should.
     pub fn fits<G: Game>(
-        &mut self,
+        &self,
         game: &G,
-        expected: Expected,
+        expected: Result<Expected, Refusal>,
         reply: Result<Answer, Refusal>,
     ) -> bool {
         match (expected, reply) {
-            (Expected::Refused(number), Err(refusal)) => refusal.number() == number,
-            (Expected::Laid, Ok(Answer::Laid)) => true,
-            (Expected::Begun(a), Ok(Answer::Begun(b))) => same(a, b),
-            (Expected::Turned(a), Ok(Answer::Turned(b))) => same(a, b),
-            (Expected::Worth(a), Ok(Answer::Worth(b))) => a == b,
-            (Expected::Advice, Ok(Answer::Advice(None))) => self.worth() == 0,
-            (Expected::Advice, Ok(Answer::Advice(Some(m)))) => self.is_good(game, m),
+            (Err(expected), Err(refusal)) => {
+                refusal == expected && refusal.number() == number_of(expected)
+            }
+            (Ok(Expected::Exactly(expected)), Ok(answer)) => answer == expected,
+            (Ok(Expected::Advice), Ok(Answer::Advice(None))) => self.worth() == 0,
+            (Ok(Expected::Advice), Ok(Answer::Advice(Some(m)))) => self.is_good(game, m),
             _ => false,
         }
     }
 
     // Whether the value is not 0, and the move may be made and leaves 0.
-    fn is_good<G: Game>(&mut self, game: &G, m: Move) -> bool {
-        self.worth() != 0 && self.fault(game, m).is_none() && self.worth_after(game, m) == 0
+    fn is_good<G: Game>(&self, game: &G, m: Move) -> bool {
+        self.worth() != 0 && self.allow(game, m).is_ok() && self.worth_after(game, m) == 0
     }
 
     // Whether the table shows these coins, this state and this side.
     pub fn matches<G: Game>(&self, table: &Table<G>) -> bool {
-        for c in 0..200 {
-            if table.heads(c) != self.heads(c) {
-                return false;
-            }
-        }
-        same(table.state(), self.state) && matches!(table.side(), Side::Second) == self.odd
+        (0..200).all(|c| table.heads(c) == self.heads(c))
+            && table.state() == self.state
+            && (table.side() == Side::Second) == self.odd
     }
 }
 
-fn same(a: State, b: State) -> bool {
-    matches!(
-        (a, b),
-        (State::Setting, State::Setting)
-            | (State::Playing, State::Playing)
-            | (State::Over, State::Over)
-    )
+// The number that a refusal should have.
+fn number_of(refusal: Refusal) -> u32 {
+    match refusal {
+        Refusal::NoCells => 1,
+        Refusal::NotNow => 2,
+        Refusal::OffBoard => 3,
+        Refusal::Heads => 4,
+        Refusal::Tails => 5,
+        Refusal::NoMove => 6,
+    }
 }

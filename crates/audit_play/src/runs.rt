@@ -1,24 +1,23 @@
 // Runs of calls on tables, each compared with a record that is kept apart.
-use crate::boards;
-use crate::generator::Generator;
 use crate::record::Record;
+use crate::{boards, random};
 use games::{Game, Turtles};
 use std::alloc::{AllocError, Global};
 use tables::calls::{Answer, Call, Refusal};
 use tables::table::Table;
-use tallies::{Section, Tally};
+use tallies::{Generator, Section, Tally};
+
+const SEED: u32 = 2_463_534_242;
 
 const RUNS: u32 = 10;
 
 const CALLS: u32 = 200;
 
 pub fn calls(heap: Global) -> Result<Section, AllocError> {
-    let mut generator = Generator::new();
+    let mut generator = Generator::new(SEED);
     let mut tally = Tally::new();
-    for pile in boards::made(heap, &boards::large())? {
-        try_runs(heap, pile, &mut generator, &mut tally)?;
-    }
-    for pile in boards::made(heap, &boards::small())? {
+    let piles = boards::large().into_iter().chain(boards::small());
+    for pile in piles.flatten() {
         try_runs(heap, pile, &mut generator, &mut tally)?;
     }
     try_runs(heap, Turtles::new(40), &mut generator, &mut tally)?;
@@ -35,12 +34,15 @@ fn try_runs<G: Game + Copy + Drop>(
     generator: &mut Generator,
     tally: &mut Tally,
 ) -> Result<(), AllocError> {
-    let mut record = Record::new(heap, &game)?;
+    let Some(mut record) = Record::new(heap, &game)? else {
+        tally.count(false);
+        return Ok(());
+    };
     for _ in 0..RUNS {
         record.clear();
         let mut table = Table::new(game);
         for _ in 0..CALLS {
-            let call = generator.call(&game, &record);
+            let call = random::call(generator, &game, &record);
             tally.count(agrees(&mut table, &mut record, &game, call));
         }
     }

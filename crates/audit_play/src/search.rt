@@ -45,21 +45,17 @@ impl Search {
 
     // How many positions there are: the masks below.
     pub fn count(&self) -> Mask {
-        let mut count: u32 = 0;
-        for _ in &self.won {
-            count = count.saturating_add(1);
-        }
-        count
+        u32::try_from(self.won.len()).unwrap_or(u32::MAX)
     }
 
     // Whether a turn leads to a lost position. Each turn leads to a smaller mask.
     fn has_winning_turn(&self, heads: Mask) -> bool {
-        for turn in &self.turns {
-            if turn.may(heads) && self.is_lost(heads ^ turn.coins) {
-                return true;
-            }
-        }
-        false
+        self.turns.iter().any(|turn| self.wins(turn, heads))
+    }
+
+    // Whether the turn may be made and leads to a lost position.
+    fn wins(&self, turn: &Turn, heads: Mask) -> bool {
+        turn.may(heads) && self.is_lost(heads ^ turn.coins)
     }
 
     pub fn is_lost(&self, heads: Mask) -> bool {
@@ -71,22 +67,14 @@ impl Search {
     }
 
     fn can_move(&self, heads: Mask) -> bool {
-        for turn in &self.turns {
-            if turn.may(heads) {
-                return true;
-            }
-        }
-        false
+        self.turns.iter().any(|turn| turn.may(heads))
     }
 
     // Whether the move may be made and leads to a lost position.
     fn wins_by(&self, heads: Mask, place: Move) -> bool {
-        for turn in &self.turns {
-            if turn.place.cell == place.cell && turn.place.number == place.number {
-                return turn.may(heads) && self.is_lost(heads ^ turn.coins);
-            }
-        }
-        false
+        let mut turns = self.turns.iter();
+        let turn = turns.find(|turn| turn.place == place);
+        turn.is_some_and(|turn| self.wins(turn, heads))
     }
 
     // Whether a table with these heads begins as it should, and advises a winning move exactly where there is one.
@@ -109,16 +97,14 @@ impl Search {
 
 // Lays the heads and begins.
 pub fn begun<G: Game>(table: &mut Table<G>, heads: Mask) -> Result<Answer, Refusal> {
-    for c in 0..32 {
-        if heads & bit(c) != 0 {
-            let _ = table.lay(c)?;
-        }
+    for c in (0..32).filter(|c| heads & bit(*c) != 0) {
+        let _ = table.lay(c)?;
     }
     table.begin()
 }
 
 fn bit(c: u32) -> Mask {
-    if c < 32 { 1 << c } else { 0 }
+    1u32.checked_shl(c).unwrap_or(0)
 }
 
 // All moves of a game.
@@ -135,18 +121,13 @@ fn turns<G: Game>(heap: Global, game: &G) -> Result<Vec<Turn>, AllocError> {
 }
 
 fn coins<G: Game>(game: &G, place: Move) -> Mask {
-    let mut coins = 0;
-    for d in 0..32 {
-        if game.turns(place.cell, place.number, d) {
-            coins |= bit(d);
-        }
-    }
-    coins
+    let turned = (0..32).filter(|d| game.turns(place.cell, place.number, *d));
+    turned.fold(0, |coins, d| coins | bit(d))
 }
 
 pub fn positions(heap: Global) -> Result<Section, AllocError> {
     let mut tally = Tally::new();
-    for pile in boards::made(heap, &boards::small())? {
+    for pile in boards::small().into_iter().flatten() {
         try_positions(heap, pile, &mut tally)?;
     }
     try_positions(heap, Turtles::new(9), &mut tally)?;

@@ -4,8 +4,10 @@
 ghost use Rattle.std.specs.Prelude.{◌≡◌, ◌+◌, ◌-◌, ◌^◌, min, if◌then◌else◌, ◌==◌};
 
 mod generator;
+mod section;
 
 pub use generator::Generator;
+pub use section::{Section, Tried, print_all};
 use std::fmt;
 
 // How often two values agreed, and how often they did not. The counts stop at `u32::MAX`.
@@ -49,20 +51,5 @@ impl fmt::Display for Tally {
         let agreed = self.agreed;
         let tried = agreed.saturating_add(self.differed);
         write!(f, "{tried} tried, {agreed} agreed")
-    }
-}
-
-// What was compared, with its counts.
-#[derive(Clone, Copy, Debug, PartialEq, Eq)]
-pub struct Section {
-    pub title: &'static str,
-    pub tally: Tally,
-}
-
-impl fmt::Display for Section {
-    fn fmt<W: fmt::Write>(&self, f: &mut fmt::Formatter<W>) -> fmt::Result {
-        let title = self.title;
-        let tally = self.tally;
-        write!(f, "{title}: {tally}")
     }
 }
