@@ -8,7 +8,7 @@ pub struct Row {
 }
 
 impl Row {
-    // A row of that width, or of no cells where the width is above 64.
+    // A row of that width, or of no cells where the width is above 64: by the rules that is a game with no cells, and no error.
     pub fn new(width: u32) -> Row
         ensures { result.size ≡ (if nat_le width 64 then width else 0) }
     {

@@ -13,6 +13,7 @@ mod values;
 #[derive(Clone, Copy, Debug, PartialEq, Eq)]
 pub struct TakeRule {
     set: AmountSet,
+    // A row of its own: a game has no heap.
     values: [u32; 64],
     ghost right: { (c : ℕ) → c < 64 → value_in values c ≡ take_value set.bits c },
 }

@@ -38,9 +38,11 @@ pub fn product(a: u32, b: u32) -> u32
 pub fn inverse(a: u32) -> Option<u32>
     ensures { MatchOption result (a ≡ 0) (λ i. (a ≢ 0) × (a ⊗ i ≡ 1) × (i ≡ inverse_of a)) }
 {
+    if a == 0 {
+        return None;
+    }
     let (element, _) = Nimber::split(a);
-    let inverse = element.inverse().join(0);
-    if a == 0 { None } else { Some(inverse) }
+    Some(element.inverse().join(0))
 }
 
 #[cfg(test)]

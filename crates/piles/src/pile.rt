@@ -42,7 +42,7 @@ impl Pile {
     }
 }
 
-// Hands a question to the pile that is there. Tried as a method that takes a closure over `&dyn Game`: no contract can be stated of it yet.
+// Hands a question to the pile that is there. Tried as a method that takes a closure over `&dyn Game`: no contract can be stated of it.
 macro_rules! hand_on {
     ($pile:expr, $p:ident => $question:expr) => {
         match $pile {

@@ -20,6 +20,7 @@ pub enum ByteFault {
 }
 
 impl ByteFault {
+    // By a match: a variant that holds a place can have no number of its own.
     pub fn number(self) -> u32
         ensures { result ≡ byte_fault_number self }
     {
@@ -76,7 +77,7 @@ fn frame_in(file: &[u8], place: usize) -> Option<Frame<'_>>
     })
 }
 
-// The number in at most four bytes, the low one first.
+// The number in at most four bytes, the low one first; those that are missing count as 0.
 pub(crate) fn number(bytes: &[u8]) -> u32
     ensures { result ≡ number_of bytes.now }
 {

@@ -31,6 +31,7 @@ impl From<ByteFault> for RecordFault {
 }
 
 impl RecordFault {
+    // By a match: a variant that holds a place can have no number of its own.
     pub fn number(self) -> u32
         ensures { result ≡ record_fault_number self }
     {

@@ -25,7 +25,7 @@ pub(crate) enum Outcome<'a> {
     End,
 }
 
-// What is told of a record: its number and what came of it, of which clauses see the line.
+// What is told of a record: its number and what came of it. Contracts see it as the line.
 #[derive(Drop)]
 pub(crate) struct Told<'a> {
     number: usize,
@@ -44,7 +44,7 @@ impl<'a> Model for Told<'a> {
 }
 
 impl<'a> Told<'a> {
-    // What is told of record number.
+    // What is told of the record with that number.
     pub(crate) fn new(number: usize, outcome: Outcome<'a>) -> Told<'a>
         requires { text_length (told_of outcome) ≤ 80 }
         ensures { result ≡ line_of number (told_of outcome.entry) }

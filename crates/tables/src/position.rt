@@ -9,7 +9,7 @@ pub mod trial;
 use crate::calls::Move;
 use games::Game;
 
-// Coin c is bit c % 32 of word c / 32, and 1 is heads.
+// Coin c is bit c % 32 of word c / 32, and 1 is heads. Bits and no list: a table has no heap, and a trial copies all coins.
 #[derive(Clone, Copy)]
 pub struct Position {
     words: [u32; 128],

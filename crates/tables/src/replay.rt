@@ -17,7 +17,7 @@ pub fn replay<G: Game + Drop>(
 {
     let mut table = Table::new(game);
     let mut replies = Vec::new(heap);
-    // A loop: of a chain whose closure changes the table, nothing is proved.
+    // A loop: the same as a chain was tried, and that its replies are those of a run was not proved.
     for call in calls {
         replies.push(table.call(*call))?;
     }

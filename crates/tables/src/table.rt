@@ -88,7 +88,7 @@ impl<G: Game> Table<G> {
         self.dispatch(call)
     }
 
-    // What a call does depends on the state and the call together.
+    // What a call does depends on the state and the call together. Apart from `call`: of one function the clause on runs was tried and not proved.
     fn dispatch(&mut self, call: Call) -> Result<Answer, Refusal>
         ensures game { self.new.game ≡ self.old.game }
         ensures answer { result ≡ reply_to (G.Game.rules self.old.game) (coins self.old.kept.position) self.old.kept.state call }
@@ -108,6 +108,7 @@ impl<G: Game> Table<G> {
         }
     }
 
+    // Each call by its name; the replies have one type, as those of a run have.
     // Puts heads on c, while the table is setting.
     pub fn lay(&mut self, c: u32) -> Result<Answer, Refusal>
         ensures { Does G.Game.rules (Lay c) result self.old self.new }

@@ -7,6 +7,7 @@ mod reading;
 #[derive(Drop)]
 pub struct Body<'a> {
     file: &'a [u8],
+    // A place, and not the rest of the file: faults name it.
     place: usize,
     read: usize,
     // A flag, since a reader behind the end record holds nothing more.

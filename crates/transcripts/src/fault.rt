@@ -39,6 +39,7 @@ impl From<RecordFault> for Fault {
 }
 
 impl Fault {
+    // By a match: a variant that holds a place can have no number of its own.
     pub fn number(self) -> u32
         ensures { result ≡ fault_number self }
     {

@@ -10,6 +10,7 @@ impl AmountSet {
         requires { c < 64 }
         ensures { SmallestLeading self.bits (value_in values.now) c v result }
     {
+        // Half-open: what `find` gives of `1..=c` was tried and not proved.
         (1..c + 1).find(|s| self.contains(*s) && values[(c - *s) as usize] == v)
     }
 
@@ -34,6 +35,7 @@ impl AmountSet {
     pub(super) fn values(self) -> [u32; 64]
         ensures { (c : ℕ) → c < 64 → value_in result c ≡ take_value self.bits c }
     {
+        // A loop: each value is found from those before it.
         let mut values = [0; 64];
         for c in 0..64u32 {
             values[c as usize] = self.value_at(&values, c);

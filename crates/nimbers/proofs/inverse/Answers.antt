@@ -5,10 +5,10 @@ use Rattle.nimber_field.proofs.Numbers.{times_invert}
 use Rattle.nimbers.proofs.Digits.{alone}
 use Rattle.nimbers.proofs.inverse.Goals as goal
 
-pub returns-else-a-eq0 : goal.returns-else-a-eq0
+pub returns : goal.returns
 unfolding ◌⊗◌ inverse_of invert
-returns-else-a-eq0 c =
+returns c =
     let element = c.inverse.ensures ∙ ap (ops 5).inv c.split.ensures.lowest in
-    let is = c.join-inverse.ensures ∙ alone _ ∙ ap (code 5) element in
+    let is = c.join.ensures ∙ alone _ ∙ ap (code 5) element in
     let not_zero = c.if-a-eq0.false in
     (not_zero, ap (λ n. c.args.a ⊗ n) is ∙ times_invert 5 c.args.a c.ranges.a.fits not_zero, is)

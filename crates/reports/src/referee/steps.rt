@@ -35,8 +35,8 @@ impl<'a> Referee<'a> {
         })
     }
 
-    // Reads a record, calls the table, writes a line into the buffer and gives its length, or 0 behind the end record. A fault
-    // changes nothing, and is met again.
+    // Reads a record, calls the table, writes a line into the buffer and gives its length, or 0 behind the end record, as `Read::read`
+    // gives 0 at the end: no line is empty. A fault changes nothing, and is met again.
     pub fn step(&mut self, line: &mut [u8]) -> Result<usize, Fault>
         ensures game { self.new.table.game ≡ self.old.table.game }
         ensures does { Stepped (pile_of self.old.table.game.game) (reading self.old.body) (reading self.new.body) self.old.table.kept self.new.table.kept line.old line.new result }

@@ -41,7 +41,7 @@ impl<'a> Body<'a> {
         self.advance()
     }
 
-    // Reads the record at the reader's place.
+    // Reads the record at the reader's place. Apart from `read`, whose clause `again` follows from these two by one lemma.
     fn advance(&mut self) -> Result<Option<Record<'a>>, Fault>
         ensures found { as_found result ≡ found (reading self.old) }
         ensures after { reading self.new ≡ reading_after (reading self.old) (as_found result) }
