@@ -3,9 +3,9 @@ use crate::{plain, steps};
 use std::alloc::{AllocError, Global};
 use tallies::{Section, Tally};
 
-#[derive(Clone, Copy)]
+#[derive(Drop)]
 pub struct Comparison {
-    pub heap: Global,
+    heap: Global,
     tally: Tally,
 }
 
@@ -18,7 +18,7 @@ impl Comparison {
     }
 
     // Counts whether bytes are those that are expected.
-    pub fn same(&mut self, bytes: &[u8], expected: &[u8]) {
+    pub fn count_same(&mut self, bytes: &[u8], expected: &[u8]) {
         self.tally.count(bytes == expected);
     }
 
@@ -36,8 +36,8 @@ impl Comparison {
     pub fn expect(&mut self, file: &[u8], lines: &[u8]) -> Result<(), AllocError> {
         let read = plain::lines(self.heap, file)?;
         let told = reports::report(self.heap, file)?;
-        self.same(read.as_bytes(), lines);
-        self.same(told.as_slice(), lines);
+        self.count_same(read.as_bytes(), lines);
+        self.count_same(told.as_slice(), lines);
         Ok(())
     }
 

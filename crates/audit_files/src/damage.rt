@@ -35,18 +35,19 @@ pub fn damaged(heap: Global) -> Result<Section, AllocError> {
     for kind in KINDS {
         for length in LENGTHS {
             for byte in BYTES {
-                try_record(&mut comparison, kind, &[byte; 258][0..length.min(258)])?;
+                let body = [byte; 258];
+                try_record(&mut comparison, heap, kind, &body[..length.min(258)])?;
             }
         }
     }
     for pile in PILES {
         let [low, high] = pile.to_le_bytes();
         let body = [low, high, 2, 0, 2, 0, 3, 0, 0, 0];
-        try_record(&mut comparison, Kind::Head as u16, &body)?;
+        try_record(&mut comparison, heap, Kind::Head as u16, &body)?;
     }
     for byte in 0..=255 {
-        try_record(&mut comparison, Kind::Remark as u16, &[byte, 32, 126])?;
-        try_record(&mut comparison, Kind::Remark as u16, &[32, 126, byte])?;
+        try_record(&mut comparison, heap, Kind::Remark as u16, &[byte, 32, 126])?;
+        try_record(&mut comparison, heap, Kind::Remark as u16, &[32, 126, byte])?;
     }
     // Bytes after the end record: the same file again, up to each of its bytes.
     let mut file = known::rugs(heap)?;
@@ -58,10 +59,14 @@ pub fn damaged(heap: Global) -> Result<Section, AllocError> {
 }
 
 // A record as the first one and after some others, each with an end and without, and the same one byte short.
-fn try_record(comparison: &mut Comparison, kind: u16, body: &[u8]) -> Result<(), AllocError> {
-    let heap = comparison.heap;
+fn try_record(
+    comparison: &mut Comparison,
+    heap: Global,
+    kind: u16,
+    body: &[u8],
+) -> Result<(), AllocError> {
     for mut file in [Transcript::new(heap), Transcript::begun(heap, 0)?] {
-        file.raw(body.len().min(65_535) as u16, kind, body)?;
+        file.record(kind, body)?;
         comparison.compare(&file.bytes)?;
         let size = file.bytes.len();
         file.end()?;

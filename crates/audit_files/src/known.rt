@@ -139,7 +139,7 @@ pub fn rugs(heap: Global) -> Result<Vec<u8>, AllocError> {
 // The builders and the cases.
 pub fn files(heap: Global) -> Result<Section, AllocError> {
     let mut comparison = Comparison::new(heap);
-    comparison.same(&rugs(heap)?, RUGS);
+    comparison.count_same(&rugs(heap)?, RUGS);
     comparison.expect(RUGS, RUGS_LINES)?;
     for case in &CASES {
         let mut file = Vec::new(heap);

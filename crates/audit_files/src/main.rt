@@ -11,12 +11,12 @@ mod steps;
 mod whole;
 mod writing;
 
-use anyhow::anyhow;
-use std::alloc::{AllocError, Global};
-use tallies::{Section, print_all};
+use anyhow::ensure;
+use tallies::print_all;
 
-// All that is tried, with its counts.
-fn sections(heap: Global) -> Result<Vec<Section>, AllocError> {
+// Prints what was tried, and fails unless all agreed.
+fn run(rt: &HostRuntime) -> anyhow::Result<()> {
+    let heap = rt.alloc();
     let sections = [
         known::files(heap)?,
         whole::files(heap)?,
@@ -25,14 +25,10 @@ fn sections(heap: Global) -> Result<Vec<Section>, AllocError> {
         edges::files(heap)?,
         random::files(heap)?,
     ];
-    sections.to_vec(heap)
+    ensure!(print_all(rt, &sections)?, "some did not agree");
+    Ok(())
 }
 
 fn main(rt: HostRuntime) -> anyhow::Result<()> {
-    let sections = sections(rt.alloc())?;
-    if print_all(&rt, &sections)? {
-        Ok(())
-    } else {
-        Err(anyhow!("some did not agree"))
-    }
+    run(&rt)
 }

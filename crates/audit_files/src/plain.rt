@@ -11,6 +11,7 @@ use tables::table::Table;
 const MOST: usize = 65_535;
 
 // What may be wrong with a file, by its number in a line.
+// Of its own: a wrong number of a fault in `transcripts` would otherwise not be found.
 #[derive(Clone, Copy)]
 enum Fault {
     CutShort = 10,
@@ -25,10 +26,11 @@ enum Fault {
 }
 
 // What a record says.
+// Of its own: a record that `records` reads wrongly would otherwise not be found.
 #[derive(Clone, Copy)]
 enum Record<'a> {
-    Head { pile: u32, w: u32, h: u32, set: u32 },
-    Lay(u32),
+    Head { pile: u16, w: u16, h: u16, set: u32 },
+    Lay(u16),
     Begin,
     Turn(Move),
     Advise,
@@ -38,19 +40,19 @@ enum Record<'a> {
 
 impl<'a> Record<'a> {
     // The record of a kind and a body.
-    fn new(kind: u32, body: &'a [u8]) -> Result<Record<'a>, Fault> {
+    fn new(kind: u16, body: &'a [u8]) -> Result<Record<'a>, Fault> {
         match (kind, body) {
             (1, &[p, q, w, v, h, g, a, b, c, d]) => Ok(Record::Head {
-                pile: number(&[p, q]),
-                w: number(&[w, v]),
-                h: number(&[h, g]),
-                set: number(&[a, b, c, d]),
+                pile: u16::from_le_bytes([p, q]),
+                w: u16::from_le_bytes([w, v]),
+                h: u16::from_le_bytes([h, g]),
+                set: u32::from_le_bytes([a, b, c, d]),
             }),
-            (2, &[c, d]) => Ok(Record::Lay(number(&[c, d]))),
+            (2, &[c, d]) => Ok(Record::Lay(u16::from_le_bytes([c, d]))),
             (3, []) => Ok(Record::Begin),
             (4, &[c, d, i, j, k, l]) => Ok(Record::Turn(Move {
-                cell: number(&[c, d]),
-                number: number(&[i, j, k, l]),
+                cell: u32::from(u16::from_le_bytes([c, d])),
+                number: u32::from_le_bytes([i, j, k, l]),
             })),
             (5, []) => Ok(Record::Advise),
             (6, text) if text.len() <= 80 => Ok(Record::Remark(text)),
@@ -59,14 +61,6 @@ impl<'a> Record<'a> {
             _ => Err(Fault::UnknownKind),
         }
     }
-}
-
-// The number that bytes stand for, the lowest byte first.
-fn number(bytes: &[u8]) -> u32 {
-    bytes
-        .iter()
-        .rev()
-        .fold(0, |number, byte| number << 8 | u32::from(*byte))
 }
 
 // A record, and what follows it.
@@ -86,9 +80,9 @@ fn take_record(bytes: &[u8]) -> Result<Taken<'_>, Fault>
     let [l, m, k, j, tail @ ..] = bytes else {
         return Err(Fault::CutShort);
     };
-    let length = number(&[*l, *m]) as usize;
+    let length = usize::from(u16::from_le_bytes([*l, *m]));
     let (body, rest) = tail.split_at_checked(length).ok_or(Fault::CutShort)?;
-    let record = Record::new(number(&[*k, *j]), body)?;
+    let record = Record::new(u16::from_le_bytes([*k, *j]), body)?;
     Ok(Taken { record, rest })
 }
 
@@ -98,7 +92,7 @@ fn take_head(bytes: &[u8]) -> Result<(Pile, &[u8]), Fault> {
     let Record::Head { pile, w, h, set } = record else {
         return Err(Fault::HeadMisplaced);
     };
-    let pile = Pile::new(pile, w, h, set).ok_or(Fault::NoPile)?;
+    let pile = Pile::new(u32::from(pile), u32::from(w), u32::from(h), set).ok_or(Fault::NoPile)?;
     Ok((pile, rest))
 }
 
@@ -168,6 +162,7 @@ fn follow(
     file: &[u8],
     mut rest: &[u8],
 ) -> Result<(), AllocError> {
+    // A loop: it ends at a fault or behind the end record.
     loop {
         let taken = match take_later(rest) {
             Ok(taken) => taken,
@@ -205,7 +200,7 @@ fn answered(
 ) -> Result<Result<String, AllocError>, Refusal> {
     Ok(match record {
         Record::Lay(cell) => {
-            table.lay(cell)?;
+            table.lay(u32::from(cell))?;
             format!(in heap; "laid {cell}")
         }
         Record::Begin => match table.begin()? {

@@ -5,16 +5,16 @@ use crate::writing::{Board, Transcript};
 use std::alloc::{AllocError, Global};
 use tallies::{Generator, Section};
 
-// Makes files by numbers that look random.
+// Records and files at random.
 #[derive(Drop)]
-struct Maker {
-    generator: Generator,
+struct Random {
+    numbers: Generator,
 }
 
-impl Maker {
+impl Random {
     // A number from 0 to end - 1.
     fn below(&mut self, end: u16) -> u16 {
-        (self.generator.step() % u32::from(end).max(1)) as u16
+        (self.numbers.step() % u32::from(end).max(1)) as u16
     }
 
     // Any byte.
@@ -79,12 +79,12 @@ impl Maker {
 // Five hundred files of either sort.
 pub fn files(heap: Global) -> Result<Section, AllocError> {
     let mut comparison = Comparison::new(heap);
-    let mut maker = Maker {
-        generator: Generator::new(2_463_534_242),
+    let mut random = Random {
+        numbers: Generator::new(2_463_534_242),
     };
     for _ in 0..500 {
-        comparison.compare(&maker.records(heap)?)?;
-        comparison.compare(&maker.damaged(heap)?)?;
+        comparison.compare(&random.records(heap)?)?;
+        comparison.compare(&random.damaged(heap)?)?;
     }
     Ok(comparison.section("random files"))
 }

@@ -1,7 +1,6 @@
 // The lines of a file by steps of a referee, with what a step must leave.
 use reports::{Referee, write_fault};
 use std::alloc::{AllocError, Global};
-use transcripts::fault::Fault;
 use transcripts::unread::Unread;
 
 // More steps than a file has records: a referee that goes on beyond them is stopped here.
@@ -50,7 +49,8 @@ fn step<'a>(referee: &mut Referee, buffer: &'a mut [u8]) -> Option<Given<'a>> {
             let (line, behind) = buffer.split_at_checked(length)?;
             is_marked(behind).then_some(Given::Line(line))
         }
-        Err(fault) if meets_again(referee, fault, buffer) => {
+        // The step meets its fault again, and leaves the buffer as it is.
+        Err(fault) if referee.step(buffer) == Err(fault) && is_marked(buffer) => {
             let length = write_fault(fault, buffer).ok()?;
             buffer.get(..length).map(Given::Fault)
         }
@@ -63,14 +63,6 @@ fn refuses_small(referee: &mut Referee) -> bool {
     let mut small = [MARK; 127];
     match referee.step(&mut small) {
         Err(fault) => fault.number() == 19 && is_marked(&small),
-        Ok(_) => false,
-    }
-}
-
-// Whether a step meets a fault again, and leaves a buffer of marks as it is.
-fn meets_again(referee: &mut Referee, fault: Fault, buffer: &mut [u8]) -> bool {
-    match referee.step(buffer) {
-        Err(again) => again.number() == fault.number() && is_marked(buffer),
         Ok(_) => false,
     }
 }

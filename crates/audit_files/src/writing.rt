@@ -2,6 +2,7 @@
 use std::alloc::{AllocError, Global};
 
 // What a head says.
+// Of its own: a head that `records` reads wrongly would otherwise not be found.
 #[derive(Clone, Copy)]
 pub struct Board {
     pub pile: u16,
@@ -17,6 +18,7 @@ impl Board {
 }
 
 // The kinds of records, by their numbers.
+// Of its own: a wrong number of a kind in `records` would otherwise not be found.
 #[derive(Clone, Copy)]
 pub enum Kind {
     Head = 1,
@@ -57,47 +59,49 @@ impl Transcript {
         self.bytes.extend_from_slice(body)
     }
 
-    // A record whose length is that of its body.
-    fn record(&mut self, kind: Kind, body: &[u8]) -> Result<(), AllocError> {
-        self.raw(body.len().min(65_535) as u16, kind as u16, body)
+    // A record of any kind, whose length is that of its body.
+    pub fn record(&mut self, kind: u16, body: &[u8]) -> Result<(), AllocError> {
+        self.raw(body.len().min(65_535) as u16, kind, body)
     }
 
     // The record that names the pile.
     pub fn head(&mut self, board: Board) -> Result<(), AllocError> {
-        self.raw(10, Kind::Head as u16, &board.pile.to_le_bytes())?;
-        self.bytes.extend_from_slice(&board.w.to_le_bytes())?;
-        self.bytes.extend_from_slice(&board.h.to_le_bytes())?;
-        self.bytes.extend_from_slice(&board.set.to_le_bytes())
+        let [p, q] = board.pile.to_le_bytes();
+        let [w, v] = board.w.to_le_bytes();
+        let [h, g] = board.h.to_le_bytes();
+        let [a, b, c, d] = board.set.to_le_bytes();
+        self.record(Kind::Head as u16, &[p, q, w, v, h, g, a, b, c, d])
     }
 
     // A lay of a coin.
     pub fn lay(&mut self, cell: u16) -> Result<(), AllocError> {
-        self.record(Kind::Lay, &cell.to_le_bytes())
+        self.record(Kind::Lay as u16, &cell.to_le_bytes())
     }
 
     // The end of the laying.
     pub fn begin(&mut self) -> Result<(), AllocError> {
-        self.record(Kind::Begin, &[])
+        self.record(Kind::Begin as u16, &[])
     }
 
     // A move.
     pub fn turn(&mut self, cell: u16, number: u32) -> Result<(), AllocError> {
-        self.raw(6, Kind::Turn as u16, &cell.to_le_bytes())?;
-        self.bytes.extend_from_slice(&number.to_le_bytes())
+        let [c, d] = cell.to_le_bytes();
+        let [i, j, k, l] = number.to_le_bytes();
+        self.record(Kind::Turn as u16, &[c, d, i, j, k, l])
     }
 
     // A question for advice.
     pub fn advise(&mut self) -> Result<(), AllocError> {
-        self.record(Kind::Advise, &[])
+        self.record(Kind::Advise as u16, &[])
     }
 
     // A remark, also one that is too long.
     pub fn remark(&mut self, text: &[u8]) -> Result<(), AllocError> {
-        self.record(Kind::Remark, text)
+        self.record(Kind::Remark as u16, text)
     }
 
     // The last record.
     pub fn end(&mut self) -> Result<(), AllocError> {
-        self.record(Kind::End, &[])
+        self.record(Kind::End as u16, &[])
     }
 }
