@@ -1,7 +1,8 @@
 // The laws of a field, tried on triples of numbers.
 use crate::sample::Triple;
+use crate::tried::tried;
 use nimbers::{inverse, product, sum};
-use tallies::{Section, Tally};
+use tallies::Section;
 
 pub fn laws(triples: &[Triple]) -> [Section; 4] {
     [
@@ -23,15 +24,4 @@ pub fn laws(triples: &[Triple]) -> [Section; 4] {
             product(t.a, sum(t.b, t.c)) == sum(product(t.a, t.b), product(t.a, t.c))
         }),
     ]
-}
-
-// How often a law holds.
-fn tried<F: Fn(&Triple) -> bool>(title: &'static str, triples: &[Triple], holds: F) -> Section
-    requires { F.IsAlwaysCallable holds }
-{
-    let mut tally = Tally::new();
-    for t in triples {
-        tally.count(holds(t));
-    }
-    Section { title, tally }
 }

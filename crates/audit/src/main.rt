@@ -8,13 +8,14 @@ mod field;
 mod products;
 mod rule;
 mod sample;
+mod tried;
 mod worked;
 
 use anyhow::ensure;
 use tallies::print_all;
 
 // Prints what was tried, and fails unless all agreed.
-fn run(rt: &HostRuntime) -> anyhow::Result<()> {
+fn main(rt: HostRuntime) -> anyhow::Result<()> {
     let rows = rule::rows(rt.alloc())?;
     let triples = sample::triples(rt.alloc())?;
     let nimbers = [
@@ -24,16 +25,12 @@ fn run(rt: &HostRuntime) -> anyhow::Result<()> {
         fermat::products(&triples),
     ];
     let agreed = [
-        print_all(rt, &nimbers)?,
-        print_all(rt, &field::laws(&triples))?,
-        print_all(rt, &audit_games::found(rt.alloc())?)?,
-        print_all(rt, &audit_games::largest(&rows))?,
-        print_all(rt, &audit_play::sections(rt.alloc())?)?,
+        print_all(&rt, &nimbers)?,
+        print_all(&rt, &field::laws(&triples))?,
+        print_all(&rt, &audit_games::found(rt.alloc())?)?,
+        print_all(&rt, &audit_games::largest(&rows))?,
+        print_all(&rt, &audit_play::sections(rt.alloc())?)?,
     ];
     ensure!(agreed.iter().all(|agreed| *agreed), "some did not agree");
     Ok(())
-}
-
-fn main(rt: HostRuntime) -> anyhow::Result<()> {
-    run(&rt)
 }

@@ -4,6 +4,7 @@ ghost use Rattle.std.specs.Prelude.{◌≡◌, ℕ, ◌<◌, MatchOption, ◌≢
 use crate::rule::Row;
 use tallies::{Section, Tally};
 
+// The same walk as in the limits of audit_games, which does not use `nimbers`: one function for both would stand in a third crate.
 pub fn products(rows: &[Row]) -> Section {
     let mut tally = Tally::new();
     for (a, row) in (0..256u32).zip(rows) {

@@ -11,6 +11,7 @@ pub type Row = [u8; 256];
 // The rows of the numbers below 256.
 pub fn rows(heap: Global) -> anyhow::Result<Vec<Row>> {
     let mut rows = Vec::new(heap);
+    // A loop: each is found from those before it.
     for _ in 0..256u32 {
         let row = next_row(&rows).context("a product of numbers below 256 is not below 256")?;
         rows.push(row)?;
@@ -21,6 +22,7 @@ pub fn rows(heap: Global) -> anyhow::Result<Vec<Row>> {
 // The row of a number, after those of all smaller ones.
 fn next_row(earlier: &[Row]) -> Option<Row> {
     let mut row = [0; 256];
+    // A loop: each is found from those before it.
     for b in 0..=255u8 {
         row[b as usize] = next_product(earlier, &row, b)?;
     }

@@ -28,6 +28,7 @@ pub struct Triple {
 // All triples of edge numbers, and then generated ones.
 pub fn triples(heap: Global) -> Result<Vec<Triple>, AllocError> {
     let mut triples = Vec::new(heap);
+    // Loops: with a chain it stayed open that the nested closures may be called at each turn of the collection.
     for a in EDGES {
         for b in EDGES {
             for c in EDGES {

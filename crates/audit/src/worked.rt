@@ -1,19 +1,13 @@
 // The worked sums, by the libraries' own answers.
+use crate::tried::tried;
 use games::{Game, Ruler, Take, Turtles, Twins};
 use nimbers::{inverse, product};
 use piles::Product;
 use piles::worked::{WorkedSum, worked_sums};
-use tallies::{Section, Tally};
+use tallies::Section;
 
 pub fn sums() -> Section {
-    let mut tally = Tally::new();
-    for sum in worked_sums() {
-        tally.count(agrees(sum));
-    }
-    Section {
-        title: "worked sums",
-        tally,
-    }
+    tried("worked sums", &worked_sums(), |sum| agrees(*sum))
 }
 
 fn agrees(sum: WorkedSum) -> bool {

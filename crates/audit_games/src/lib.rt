@@ -15,6 +15,7 @@ use std::alloc::Global;
 use tallies::Section;
 
 // The shipped games, the numbered piles, and piles in piles.
+// A list: a result that holds an array of titled findings is past what the check of borrows covers.
 pub fn found(heap: Global) -> anyhow::Result<Vec<Findings>> {
     let found = [
         shipped::game("Twins", heap, Twins::new)?,

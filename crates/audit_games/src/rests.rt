@@ -1,6 +1,7 @@
 // The rests of the moves at a cell, and the value that they leave to it.
 ghost use Rattle.std.specs.Prelude.{◌≡◌, ℕ, ◌-◌, ◌^◌, ◌<◌, length, IfSome, IfOk, vec_len, MatchOption, slice_index};
 ghost use Rattle.audit_games.specs.Lists.{Has, LacksBelow};
+ghost use Rattle.audit_games.specs.Values.{IsSmallest};
 ghost use Rattle.games.specs.Rules.{sum_held};
 
 use games::Game;
@@ -51,9 +52,36 @@ pub fn smallest_missing(rests: &[u32]) -> Option<u32>
     (0..u32::MAX).find(|n| lowest_move(rests, *n).is_none())
 }
 
+// The smallest number that is no rest of a move at c, from the values of the cells below c.
+fn next_value<G: Game>(
+    game: &G,
+    c: u32,
+    values: &[u32],
+    heap: Global,
+) -> Result<Option<u32>, AllocError>
+    ensures { IfOk result (λ found. IfSome found (λ v. IsSmallest (G.Game.rules game.now) values.now c v)) }
+{
+    let rests = rests(game, c, values, heap)?;
+    Ok(smallest_missing(&rests))
+}
+
+// The values of the cells below an end, in their order, unless every number is a rest at one.
+pub fn values<G: Game>(game: &G, end: u32, heap: Global) -> Result<Option<Vec<u32>>, AllocError>
+    ensures { IfOk result (λ found. IfSome found (λ v. (vec_len v ≡ end) × ((c : ℕ) → c < end → IsSmallest (G.Game.rules game.now) v.items c (slice_index v.items c)))) }
+{
+    let mut values = Vec::new(heap);
+    for c in 0..end {
+        let Some(value) = next_value(game, c, &values, heap)? else {
+            return Ok(None);
+        };
+        values.push(value)?;
+    }
+    Ok(Some(values))
+}
+
 #[cfg(test)]
 mod tests {
-    use super::{rests, smallest_missing};
+    use super::{rests, smallest_missing, values};
     use games::Twins;
     use std::test::Fail;
 
@@ -63,6 +91,14 @@ mod tests {
         let found = rests(&Twins::new(5), 3, &[0, 1, 2], rt.alloc())?;
         assert_eq!(rt; found.len(), 3);
         assert_eq!(rt; smallest_missing(&found), Some(3));
+        Ok(())
+    }
+
+    // The value of a cell of Twins is its number.
+    #[test]
+    fn values_of_twins(rt: HostRuntime) -> Result<(), Fail> {
+        let found = values(&Twins::new(4), 4, rt.alloc())?;
+        assert!(rt; found.is_some_and(|values| values == [0, 1, 2, 3]));
         Ok(())
     }
 }

@@ -3,7 +3,7 @@ ghost use Rattle.std.specs.Prelude.{◌≡◌, ℕ, ◌<◌, ◌≤◌, true, fa
 ghost use Rattle.audit_games.specs.Lists.{LacksBelow};
 
 use crate::findings::Findings;
-use crate::rests::{lowest_move, rests, smallest_missing};
+use crate::rests::{lowest_move, rests, values};
 use anyhow::Context;
 use games::Game;
 use std::alloc::Global;
@@ -35,57 +35,73 @@ impl Trial {
 
     // Tries every cell, move and reply of a game that is to have that many cells.
     pub fn examine<G: Game>(&mut self, game: &G, cells: u32) -> anyhow::Result<()> {
-        self.findings.sizes.count(has_size(game, cells));
-        let mut values = Vec::new(self.heap);
-        for c in 0..cells {
+        let subject = Subject { game, cells };
+        self.findings.sizes.count(subject.has_size());
+        let values = values(game, cells, self.heap)?.context("every number is a rest")?;
+        for (c, value) in (0..cells).zip(&values) {
             let rests = rests(game, c, &values, self.heap)?;
-            let value = smallest_missing(&rests).context("every number is a rest")?;
-            values.push(value)?;
-            self.findings.values.count(game.value(c) == value);
-            self.findings.counts.count(is_counted(game, cells, c));
-            try_moves(game, cells, c, &mut self.findings.moves);
+            self.findings.values.count(game.value(c) == *value);
+            self.findings.counts.count(subject.is_counted(c));
+            subject.try_moves(c, &mut self.findings.moves);
             let expected = Expected {
-                value,
+                value: *value,
                 rests: &rests,
                 choice: self.choice,
             };
             expected.try_replies(game, c, &mut self.findings.replies);
         }
-        try_off_board(game, cells, &mut self.findings.off_board);
+        subject.try_off_board(&mut self.findings.off_board);
         Ok(())
     }
 }
 
-// Without cells there is no ceiling either.
-fn has_size<G: Game>(game: &G, cells: u32) -> bool
-    ensures size { result ≡ true → (G.Game.rules game.now).cells ≡ cells }
-    ensures ceiling { result ≡ true → cells ≡ 0 → (G.Game.rules game.now).ceiling ≡ 0 }
-{
-    game.size() == cells && (cells > 0 || game.ceiling() == 0)
+// A game that is tried, and how many cells it is to have.
+#[derive(Drop)]
+struct Subject<'a, G> {
+    game: &'a G,
+    cells: u32,
 }
 
-// Whether the count at c is within the ceiling, and no number from it up is a move's.
-fn is_counted<G: Game>(game: &G, cells: u32, c: u32) -> bool
-    ensures { result ≡ true → (G.Game.rules game.now).count c ≤ (G.Game.rules game.now).ceiling }
-{
-    let count = game.count(c);
-    let is_move = |d| game.turns(c, count, d) || game.turns(c, u32::MAX, d);
-    count <= game.ceiling() && !(0..cells).any(is_move)
-}
-
-// Every move turns its own cell and none above it.
-fn try_moves<G: Game>(game: &G, cells: u32, c: u32, tally: &mut Tally) {
-    for i in 0..game.count(c) {
-        tally.count(game.turns(c, i, c) && !turns_above(game, cells, c, i));
+impl<G: Game> Subject<'_, G> {
+    // Without cells there is no ceiling either.
+    fn has_size(&self) -> bool
+        ensures size { result ≡ true → (G.Game.rules self.now.game.now).cells ≡ self.now.cells }
+        ensures ceiling { result ≡ true → self.now.cells ≡ 0 → (G.Game.rules self.now.game.now).ceiling ≡ 0 }
+    {
+        self.game.size() == self.cells && (self.cells > 0 || self.game.ceiling() == 0)
     }
-}
 
-// Whether move i at c turns a cell above c, on the board or past its end.
-fn turns_above<G: Game>(game: &G, cells: u32, c: u32, i: u32) -> bool
-    ensures { result ≡ false → (d : ℕ) → c < d → d < cells → (G.Game.rules game.now).holds c i d ≡ false }
-{
-    let mut above = c.saturating_add(1)..cells.saturating_add(2);
-    above.any(|d| game.turns(c, i, d)) || game.turns(c, i, u32::MAX)
+    // Whether the count at c is within the ceiling, and no number from it up is a move's.
+    fn is_counted(&self, c: u32) -> bool
+        ensures { result ≡ true → (G.Game.rules self.now.game.now).count c ≤ (G.Game.rules self.now.game.now).ceiling }
+    {
+        let game = self.game;
+        let count = game.count(c);
+        let is_move = |d| game.turns(c, count, d) || game.turns(c, u32::MAX, d);
+        count <= game.ceiling() && !(0..self.cells).any(is_move)
+    }
+
+    // Every move turns its own cell and none above it.
+    fn try_moves(&self, c: u32, tally: &mut Tally) {
+        for i in 0..self.game.count(c) {
+            tally.count(self.game.turns(c, i, c) && !self.turns_above(c, i));
+        }
+    }
+
+    // Whether move i at c turns a cell above c, on the board or past its end.
+    fn turns_above(&self, c: u32, i: u32) -> bool
+        ensures { result ≡ false → (d : ℕ) → c < d → d < self.now.cells → (G.Game.rules self.now.game.now).holds c i d ≡ false }
+    {
+        let game = self.game;
+        let mut above = c.saturating_add(1)..self.cells.saturating_add(2);
+        above.any(|d| game.turns(c, i, d)) || game.turns(c, i, u32::MAX)
+    }
+
+    fn try_off_board(&self, tally: &mut Tally) {
+        for c in [self.cells, self.cells.saturating_add(1), 4096, u32::MAX] {
+            tally.count(is_off_board(self.game, c));
+        }
+    }
 }
 
 // What the replies at a cell have to fit.
@@ -118,12 +134,6 @@ impl Expected<'_> {
             Choice::Any => self.rests.get(i as usize) == Some(&w),
         };
         has_rest && w < self.value
-    }
-}
-
-fn try_off_board<G: Game>(game: &G, cells: u32, tally: &mut Tally) {
-    for c in [cells, cells.saturating_add(1), 4096, u32::MAX] {
-        tally.count(is_off_board(game, c));
     }
 }
 

@@ -1,42 +1,37 @@
 // Games in which side 1 follows advice and side 2 tries every answer, to the end.
 use crate::boards;
 use crate::search::{Search, Turn, begun};
+use crate::trial::Trial;
 use games::{Game, Turtles};
 use std::alloc::{AllocError, Global};
 use tables::calls::{Answer, Side, State};
 use tables::table::Table;
-use tallies::{Section, Tally};
+use tallies::Section;
 
 // More steps than any of the boards needs from one position.
 const STEPS: u32 = 1_000_000;
 
 pub fn followed(heap: Global) -> Result<Section, AllocError> {
-    let mut tally = Tally::new();
-    for pile in boards::tiny().into_iter().flatten() {
-        try_games(heap, pile, &mut tally)?;
+    let mut trial = Trial::new(heap);
+    for pile in boards::tiny() {
+        match pile {
+            Some(pile) => try_games(&mut trial, pile)?,
+            None => trial.count(false),
+        }
     }
-    try_games(heap, Turtles::new(5), &mut tally)?;
-    try_games(heap, boards::nested(1), &mut tally)?;
-    Ok(Section {
-        title: "games in which advice was followed",
-        tally,
-    })
+    try_games(&mut trial, Turtles::new(5))?;
+    try_games(&mut trial, boards::nested(1))?;
+    Ok(trial.section("games in which advice was followed"))
 }
 
 // The games from every position that is won.
-fn try_games<G: Game + Copy + Drop>(
-    heap: Global,
-    game: G,
-    tally: &mut Tally,
-) -> Result<(), AllocError> {
-    let search = Search::new(heap, &game)?;
-    for heads in 0..search.count() {
-        if search.is_won(heads) {
-            let mut table = Table::new(game);
-            match begun(&mut table, heads) {
-                Ok(Answer::Begun(State::Playing)) => play(heap, table, &search, tally)?,
-                _ => tally.count(false),
-            }
+fn try_games<G: Game + Copy + Drop>(trial: &mut Trial, game: G) -> Result<(), AllocError> {
+    let search = Search::new(trial.heap, &game)?;
+    for heads in (0..search.count()).filter(|heads| search.is_won(*heads)) {
+        let mut table = Table::new(game);
+        match begun(&mut table, heads) {
+            Ok(Answer::Begun(State::Playing)) => play(trial, &search, table)?,
+            _ => trial.count(false),
         }
     }
     Ok(())
@@ -44,24 +39,23 @@ fn try_games<G: Game + Copy + Drop>(
 
 // Plays on from a table that waits for side 1. Every game that ends is counted, and so are those that do not.
 fn play<G: Game + Copy + Drop>(
-    heap: Global,
-    table: Table<G>,
+    trial: &mut Trial,
     search: &Search,
-    tally: &mut Tally,
+    table: Table<G>,
 ) -> Result<(), AllocError> {
-    let mut waiting = Vec::new(heap);
+    let mut waiting = Vec::new(trial.heap);
     waiting.push(table)?;
     for _ in 0..STEPS {
         let Some(mut table) = waiting.pop() else {
             return Ok(());
         };
         match follow(&mut table) {
-            Some(State::Playing) => answer(&mut waiting, &table, search, tally)?,
-            Some(_) => tally.count(won_by_first(&table)),
-            None => tally.count(false),
+            Some(State::Playing) => answer(trial, search, &table, &mut waiting)?,
+            Some(_) => trial.count(won_by_first(&table)),
+            None => trial.count(false),
         }
     }
-    tally.count(false);
+    trial.count(false);
     Ok(())
 }
 
@@ -78,21 +72,26 @@ fn follow<G: Game>(table: &mut Table<G>) -> Option<State> {
 
 // Makes every move that side 2 has, each on a table of its own. There is one, since the table is playing.
 fn answer<G: Game + Copy + Drop>(
-    waiting: &mut Vec<Table<G>>,
-    table: &Table<G>,
+    trial: &mut Trial,
     search: &Search,
-    tally: &mut Tally,
+    table: &Table<G>,
+    waiting: &mut Vec<Table<G>>,
 ) -> Result<(), AllocError> {
-    let may = |turn: &Turn| table.heads(turn.place.cell);
-    if !search.turns.iter().any(may) {
-        tally.count(false);
+    let turns: Vec<Turn> = search
+        .turns
+        .iter()
+        .copied()
+        .filter(|turn| table.heads(turn.place.cell))
+        .collect(trial.heap)?;
+    if turns.is_empty() {
+        trial.count(false);
     }
-    for turn in search.turns.iter().filter(|turn| may(turn)) {
+    for turn in &turns {
         let mut next = *table;
         match next.turn(turn.place) {
             Ok(Answer::Turned(State::Playing)) => waiting.push(next)?,
-            Ok(Answer::Turned(_)) => tally.count(won_by_first(&next)),
-            _ => tally.count(false),
+            Ok(Answer::Turned(_)) => trial.count(won_by_first(&next)),
+            _ => trial.count(false),
         }
     }
     Ok(())

@@ -7,12 +7,13 @@ mod random;
 mod record;
 mod runs;
 mod search;
-mod values;
+mod trial;
 
 use std::alloc::{AllocError, Global};
 use tallies::Section;
 
-// Each goes over boards of its own: one walk for all three would take a trait with a generic method, and be longer.
+// Three walks over boards: a closure is of one type of game, so one walk for all would take a trait with a generic method.
+// A list: a result that holds an array of titled sections is past what the check of borrows covers.
 pub fn sections(heap: Global) -> Result<Vec<Section>, AllocError> {
     let sections = [
         search::positions(heap)?,

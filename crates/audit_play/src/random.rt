@@ -5,26 +5,26 @@ use tables::calls::{Call, Move};
 use tallies::Generator;
 
 // Any of the calls, whatever the state.
-pub fn call<G: Game>(numbers: &mut Generator, game: &G, record: &Record) -> Call {
+pub fn call<G: Game>(numbers: &mut Generator, record: &Record<G>) -> Call {
     match numbers.step() % 32 {
         0 => Call::Begin,
         1..=2 => Call::Value,
         3..=5 => Call::Advise,
-        6..=9 => Call::Weigh(place(numbers, game, record)),
-        10..=18 => Call::Turn(place(numbers, game, record)),
-        _ => Call::Lay(near(numbers, game.size())),
+        6..=9 => Call::Weigh(place(numbers, record)),
+        10..=18 => Call::Turn(place(numbers, record)),
+        _ => Call::Lay(near(numbers, record.game.size())),
     }
 }
 
 // A move, mostly at a head.
-fn place<G: Game>(numbers: &mut Generator, game: &G, record: &Record) -> Move {
-    let near_cell = near(numbers, game.size());
+fn place<G: Game>(numbers: &mut Generator, record: &Record<G>) -> Move {
+    let near_cell = near(numbers, record.game.size());
     let cell = if numbers.step() % 4 > 0 {
         record.head_from(near_cell)
     } else {
         near_cell
     };
-    let number = near(numbers, game.count(cell));
+    let number = near(numbers, record.game.count(cell));
     Move { cell, number }
 }
 

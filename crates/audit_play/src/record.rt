@@ -1,5 +1,5 @@
 // What a table should show and answer, kept apart from it.
-use crate::values;
+use audit_games::rests::values;
 use games::Game;
 use std::alloc::{AllocError, Global};
 use tables::calls::{Answer, Call, Move, Refusal, Side, State};
@@ -20,18 +20,20 @@ struct Cell {
     heads: bool,
 }
 
+// A game, with what its table should show.
 #[derive(Drop)]
-pub struct Record {
+pub struct Record<'a, G> {
+    pub game: &'a G,
     cells: Vec<Cell>,
     state: State,
-    // Whether the number of turns that were made is odd.
+    // Whether the number of turns that were made is odd. The parity, and not Side::other, which is what is tried.
     odd: bool,
 }
 
-impl Record {
+impl<'a, G: Game> Record<'a, G> {
     // Of a new table, unless a cell has no value.
-    pub fn new<G: Game>(heap: Global, game: &G) -> Result<Option<Record>, AllocError> {
-        let Some(values) = values::values(heap, game)? else {
+    pub fn new(heap: Global, game: &'a G) -> Result<Option<Record<'a, G>>, AllocError> {
+        let Some(values) = values(game, game.size(), heap)? else {
             return Ok(None);
         };
         let cells = values
@@ -42,6 +44,7 @@ impl Record {
             })
             .collect(heap)?;
         Ok(Some(Record {
+            game,
             cells,
             state: State::Setting,
             odd: false,
@@ -78,24 +81,25 @@ impl Record {
     }
 
     // Turns the coins of a move.
-    fn turn<G: Game>(&mut self, game: &G, m: Move) {
-        for (d, cell) in (0..game.size()).zip(self.cells.iter_mut()) {
-            if game.turns(m.cell, m.number, d) {
+    fn turn(&mut self, m: Move) {
+        for (d, cell) in (0..self.game.size()).zip(self.cells.iter_mut()) {
+            if self.game.turns(m.cell, m.number, d) {
                 cell.heads = !cell.heads;
             }
         }
     }
 
     // The value that a move would leave.
-    fn worth_after<G: Game>(&self, game: &G, m: Move) -> u32 {
-        (0..game.size())
+    fn worth_after(&self, m: Move) -> u32 {
+        (0..self.game.size())
             .zip(&self.cells)
-            .filter(|(d, cell)| cell.heads != game.turns(m.cell, m.number, *d))
+            .filter(|(d, cell)| cell.heads != self.game.turns(m.cell, m.number, *d))
             .fold(0, |sum, (_, cell)| sum ^ cell.value)
     }
 
     // Goes on to playing, or over where no head has a move.
-    fn settle<G: Game>(&mut self, game: &G) -> State {
+    fn settle(&mut self) -> State {
+        let game = self.game;
         let can_move = (0..game.size())
             .zip(&self.cells)
             .any(|(c, cell)| cell.heads && game.count(c) > 0);
@@ -117,41 +121,39 @@ impl Record {
     }
 
     // Whether a move may be made.
-    fn allow<G: Game>(&self, game: &G, m: Move) -> Result<(), Refusal> {
+    fn allow(&self, m: Move) -> Result<(), Refusal> {
         let cell = self.cells.get(m.cell as usize).ok_or(Refusal::OffBoard)?;
         if !cell.heads {
             Err(Refusal::Tails)
-        } else if m.number >= game.count(m.cell) {
+        } else if m.number >= self.game.count(m.cell) {
             Err(Refusal::NoMove)
         } else {
             Ok(())
         }
     }
 
-    fn make<G: Game>(&mut self, game: &G, m: Move) -> Result<Expected, Refusal> {
-        self.allow(game, m)?;
-        self.turn(game, m);
+    fn make(&mut self, m: Move) -> Result<Expected, Refusal> {
+        self.allow(m)?;
+        self.turn(m);
         self.odd = !self.odd;
-        Ok(Expected::Exactly(Answer::Turned(self.settle(game))))
+        Ok(Expected::Exactly(Answer::Turned(self.settle())))
     }
 
-    fn weigh<G: Game>(&self, game: &G, m: Move) -> Result<Expected, Refusal> {
-        self.allow(game, m)?;
-        Ok(Expected::Exactly(Answer::Worth(self.worth_after(game, m))))
+    fn weigh(&self, m: Move) -> Result<Expected, Refusal> {
+        self.allow(m)?;
+        Ok(Expected::Exactly(Answer::Worth(self.worth_after(m))))
     }
 
     // Does a call, and says what the table should answer.
-    pub fn reply<G: Game>(&mut self, game: &G, call: Call) -> Result<Expected, Refusal> {
+    pub fn reply(&mut self, call: Call) -> Result<Expected, Refusal> {
         if self.cells.is_empty() {
             return Err(Refusal::NoCells);
         }
         match (call, self.state) {
             (Call::Lay(c), State::Setting) => self.lay(c),
-            (Call::Begin, State::Setting) => {
-                Ok(Expected::Exactly(Answer::Begun(self.settle(game))))
-            }
-            (Call::Turn(m), State::Playing) => self.make(game, m),
-            (Call::Weigh(m), State::Playing) => self.weigh(game, m),
+            (Call::Begin, State::Setting) => { Ok(Expected::Exactly(Answer::Begun(self.settle()))) }
+            (Call::Turn(m), State::Playing) => self.make(m),
+            (Call::Weigh(m), State::Playing) => self.weigh(m),
             (Call::Value, _) => Ok(Expected::Exactly(Answer::Worth(self.worth()))),
             (Call::Advise, State::Playing) => Ok(Expected::Advice),
             _ => Err(Refusal::NotNow),
@@ -159,9 +161,8 @@ impl Record {
     }
 
     // Whether the table answered as it should.
-    pub fn fits<G: Game>(
+    pub fn fits(
         &self,
-        game: &G,
         expected: Result<Expected, Refusal>,
         reply: Result<Answer, Refusal>,
     ) -> bool {
@@ -171,18 +172,18 @@ impl Record {
             }
             (Ok(Expected::Exactly(expected)), Ok(answer)) => answer == expected,
             (Ok(Expected::Advice), Ok(Answer::Advice(None))) => self.worth() == 0,
-            (Ok(Expected::Advice), Ok(Answer::Advice(Some(m)))) => self.is_good(game, m),
+            (Ok(Expected::Advice), Ok(Answer::Advice(Some(m)))) => self.is_good(m),
             _ => false,
         }
     }
 
     // Whether the value is not 0, and the move may be made and leaves 0.
-    fn is_good<G: Game>(&self, game: &G, m: Move) -> bool {
-        self.worth() != 0 && self.allow(game, m).is_ok() && self.worth_after(game, m) == 0
+    fn is_good(&self, m: Move) -> bool {
+        self.worth() != 0 && self.allow(m).is_ok() && self.worth_after(m) == 0
     }
 
     // Whether the table shows these coins, this state and this side.
-    pub fn matches<G: Game>(&self, table: &Table<G>) -> bool {
+    pub fn matches(&self, table: &Table<G>) -> bool {
         (0..200).all(|c| table.heads(c) == self.heads(c))
             && table.state() == self.state
             && (table.side() == Side::Second) == self.odd

@@ -1,16 +1,17 @@
 // Which positions are won, found from the rules of play with no values, and compared with advice.
 use crate::boards;
+use crate::trial::Trial;
 use games::{Game, Take, Turtles};
 use std::alloc::{AllocError, Global};
 use tables::calls::{Answer, Move, Refusal, State};
 use tables::table::Table;
-use tallies::{Section, Tally};
+use tallies::Section;
 
 // Coins of a small game: bit c is 1 where the coin on c is meant.
 pub type Mask = u32;
 
 // A move, with the coins that it turns.
-#[derive(Clone, Copy, Debug, PartialEq, Eq)]
+#[derive(Clone, Copy)]
 pub struct Turn {
     pub place: Move,
     coins: Mask,
@@ -36,6 +37,7 @@ impl Search {
             turns: turns(heap, game)?,
             won: Vec::new(heap),
         };
+        // A loop: each is found from those before it.
         for heads in 0..bit(game.size().min(12)) {
             let won = search.has_winning_turn(heads);
             search.won.push(won)?;
@@ -98,7 +100,7 @@ impl Search {
 // Lays the heads and begins.
 pub fn begun<G: Game>(table: &mut Table<G>, heads: Mask) -> Result<Answer, Refusal> {
     for c in (0..32).filter(|c| heads & bit(*c) != 0) {
-        let _ = table.lay(c)?;
+        table.lay(c)?;
     }
     table.begin()
 }
@@ -109,15 +111,13 @@ fn bit(c: u32) -> Mask {
 
 // All moves of a game.
 fn turns<G: Game>(heap: Global, game: &G) -> Result<Vec<Turn>, AllocError> {
-    let mut turns = Vec::new(heap);
-    for cell in 0..game.size() {
-        for number in 0..game.count(cell) {
-            let place = Move { cell, number };
-            let coins = coins(game, place);
-            turns.push(Turn { place, coins })?;
-        }
-    }
-    Ok(turns)
+    (0..game.size())
+        .flat_map(|cell| (0..game.count(cell)).map(move |number| Move { cell, number }))
+        .map(|place| Turn {
+            place,
+            coins: coins(game, place),
+        })
+        .collect(heap)
 }
 
 fn coins<G: Game>(game: &G, place: Move) -> Mask {
@@ -126,28 +126,24 @@ fn coins<G: Game>(game: &G, place: Move) -> Mask {
 }
 
 pub fn positions(heap: Global) -> Result<Section, AllocError> {
-    let mut tally = Tally::new();
-    for pile in boards::small().into_iter().flatten() {
-        try_positions(heap, pile, &mut tally)?;
+    let mut trial = Trial::new(heap);
+    for pile in boards::small() {
+        match pile {
+            Some(pile) => try_positions(&mut trial, pile)?,
+            None => trial.count(false),
+        }
     }
-    try_positions(heap, Turtles::new(9), &mut tally)?;
-    try_positions(heap, Take::new(12, 0b1101), &mut tally)?;
-    try_positions(heap, boards::nested(2), &mut tally)?;
-    Ok(Section {
-        title: "positions by search of the rules of play",
-        tally,
-    })
+    try_positions(&mut trial, Turtles::new(9))?;
+    try_positions(&mut trial, Take::new(12, 0b1101))?;
+    try_positions(&mut trial, boards::nested(2))?;
+    Ok(trial.section("positions by search of the rules of play"))
 }
 
-fn try_positions<G: Game + Copy + Drop>(
-    heap: Global,
-    game: G,
-    tally: &mut Tally,
-) -> Result<(), AllocError> {
-    let search = Search::new(heap, &game)?;
+fn try_positions<G: Game + Copy + Drop>(trial: &mut Trial, game: G) -> Result<(), AllocError> {
+    let search = Search::new(trial.heap, &game)?;
     for heads in 0..search.count() {
         let mut table = Table::new(game);
-        tally.count(search.agrees(&mut table, heads));
+        trial.count(search.agrees(&mut table, heads));
     }
     Ok(())
 }

@@ -28,6 +28,7 @@ impl Tally {
         }
     }
 
+    // Counted in a `for`: to collect a tally could fail by want of memory here.
     pub fn count(&mut self, same: bool)
         ensures agreed { self.new.agreed ≡ (if same then min (self.old.agreed + 1) (2 ^ 32 - 1) else self.old.agreed) }
         ensures differed { self.new.differed ≡ (if same then self.old.differed else min (self.old.differed + 1) (2 ^ 32 - 1)) }

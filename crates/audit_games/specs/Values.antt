@@ -1,0 +1,12 @@
+-- What the moves of a game alone give to its cells. Assumes nothing.
+use Rattle.std.specs.Prelude.{◌≡◌, ℕ, ◌<◌, List, ◌≢◌, slice_index}
+use Rattle.games.specs.Rules.{Rules, sum_held}
+
+-- the rest of move i at c, where the values of the cells below c are listed
+abbrev pub rest_by : Rules → List ℕ → ℕ → ℕ → ℕ
+rest_by G values c i = sum_held c (G.holds c i) (λ d. slice_index values d)
+
+-- v is the smallest number that is no rest of a move at c
+abbrev pub IsSmallest : Rules → List ℕ → ℕ → ℕ → Type 0
+IsSmallest G values c v =
+    ((i : ℕ) → i < G.count c → rest_by G values c i ≢ v) × ((n : ℕ) → n < v → (i : ℕ) × (i < G.count c) × (rest_by G values c i ≡ n))
