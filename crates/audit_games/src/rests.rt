@@ -98,7 +98,7 @@ mod tests {
     #[test]
     fn values_of_twins(rt: HostRuntime) -> Result<(), Fail> {
         let found = values(&Twins::new(4), 4, rt.alloc())?;
-        assert!(rt; found.is_some_and(|values| values == [0, 1, 2, 3]));
+        assert!(rt; found.is_some_and(|values| values.as_slice() == [0, 1, 2, 3].as_slice()));
         Ok(())
     }
 }
