@@ -3,21 +3,19 @@ use mathlib.Core.Path.{◌≡◌, refl, sym, ap, ◌∙◌, subst}
 use mathlib.Core.Bool.{true, false}
 use mathlib.Core.Logic.{inl, inr}
 use Prim.Native.Nat.{ℕ, zero, suc, ◌+◌, ◌*◌, ◌/◌, ◌%◌, ◌-◌, ◌^◌, ◌<◌}
-use native.Mathlib.Nat.{mod-mod, two-pow-succ, div-add-mod', mod-lt, div-lt_iff_lt-mul, mul-le-mul_right}
+use native.Mathlib.Nat.{mod-mod, two-pow-succ, div-add-mod', mod-lt, mul-le-mul_right}
 use native.Mathlib.Decide.{dec_lt}
 use native.Mathlib.Omega.{arith}
-use lib.Arith.{digits_lt, digits_div, digits_mod, mod-mul}
+use lib.Arith.{digits_lt, digits_div, digits_mod}
 use lib.Bits.{bit_xor, xor_block}
 use lib.Dec.{lit<}
-use lib.Pow.{pow_pos, pow-add}
+use lib.Pow.{pow_pos, pow-add, shr_lt, mod-mod-pow}
+use lib.Pow as pow
 use Rattle.std.specs.Prelude.{eqb}
 use Rattle.nimber_field.specs.Tower.{Tower, ops}
 use Rattle.nimber_field.specs.Nimber.{order, code, decode}
 use Rattle.nimber_field.proofs.Ring.{add_twice}
 use Rattle.nimber_field.proofs.Levels.{tools, laws}
-
-pub order_pos : (k : ℕ) → 0 < order k
-order_pos k = pow_pos (2 ^ k)
 
 pub order_suc : (k : ℕ) → order (suc k) ≡ order k * order k
 order_suc k = ap (λ n. 2 ^ n) (two-pow-succ k) ∙ pow-add 2 (2 ^ k) (2 ^ k)
@@ -38,43 +36,30 @@ decode_code (suc k) x =
       (ap (decode k) (digits_mod (code k x.0) (code_below k x.1)) ∙ decode_code k x.1) i,
     )
 
--- the halves of a number below the order of the next level
+-- the high half of a number below the order of the next level
 pub high_below : (k n : ℕ) → n < order (suc k) → n / order k < order k
-high_below k n h = (div-lt_iff_lt-mul (order_pos k)).1 (subst (λ m. n < m) (order_suc k) h)
-
-pub low_below : (k n : ℕ) → n % order k < order k
-low_below k n = mod-lt n (order_pos k)
+high_below k n h = shr_lt (2 ^ k) (2 ^ k) (subst (λ e. n < 2 ^ e) (two-pow-succ k) h)
 
 -- an element is decoded from the lowest bits of a number
 pub decode_low : (k n : ℕ) → decode k (n % order k) ≡ decode k n
 unfolding decode
 decode_low zero n = ap (λ m. eqb m 1) (mod-mod n 2)
-decode_low (suc k) n = λ i. ((high ∙ decode_low k (n / order k)) i, low i)
+decode_low (suc k) n = λ i. ((ap (decode k) high ∙ decode_low k (n / order k)) i, decode k (low i))
   where
-    digits : n % order (suc k) ≡ (n / order k % order k) * order k + n % order k
-    digits = ap (λ m. n % m) (order_suc k) ∙ mod-mul n (order_pos k) (order_pos k)
+    high : n % order (suc k) / order k ≡ n / order k % order k
+    high = ap (λ e. n % 2 ^ e / order k) (two-pow-succ k) ∙ pow.field n (2 ^ k) (2 ^ k)
 
-    high : decode k (n % order (suc k) / order k) ≡ decode k (n / order k % order k)
-    high = ap (λ m. decode k (m / order k)) digits ∙ ap (decode k) (digits_div (n / order k % order k) (low_below k n))
-
-    low : decode k (n % order (suc k) % order k) ≡ decode k (n % order k)
-    low = ap (λ m. decode k (m % order k)) digits ∙ ap (decode k) (digits_mod (n / order k % order k) (low_below k n))
-
-bit_code : (n : ℕ) → n < 2 → code zero (decode zero n) ≡ n
-unfolding code decode
-bit_code zero h = refl
-bit_code (suc zero) h = refl
-bit_code (suc (suc n)) h = absurd (omega arith)
+    low : n % order (suc k) % order k ≡ n % order k
+    low = ap (λ e. n % 2 ^ e % order k) (two-pow-succ k) ∙ mod-mod-pow n (2 ^ k) (2 ^ k)
 
 pub code_decode : (k n : ℕ) → n < order k → code k (decode k n) ≡ n
 unfolding code decode
-code_decode zero n h = bit_code n h
+code_decode zero zero h = refl
+code_decode zero (suc zero) h = refl
+code_decode zero (suc (suc n)) h = absurd (omega arith)
 code_decode (suc k) n h =
-    (λ i. code_decode k (n / order k) (high_below k n h) i * order k + code_decode k (n % order k) (low_below k n) i)
+    (λ i. code_decode k (n / order k) (high_below k n h) i * order k + code_decode k (n % order k) (mod-lt n (pow_pos (2 ^ k))) i)
     ∙ div-add-mod' n (order k)
-
-pub code_injective : (k : ℕ) (x y : Tower k) → code k x ≡ code k y → x ≡ y
-code_injective k x y e = sym (decode_code k x) ∙ ap (decode k) e ∙ decode_code k y
 
 pub code_add : (k : ℕ) (x y : Tower k) → code k ((ops k).add x y) ≡ bit_xor (code k x) (code k y)
 unfolding code ops
@@ -121,40 +106,7 @@ lower_less (suc k) p d (inr h) =
     (omega (arith, lower_less k p.1 d.1 h.1))
   where
     same : (ops k).add p.0 d.0 ≡ p.0
-    same = ap ((ops k).add p.0) h.0 ∙ (laws k).ring.add_nil p.0
-
--- two numbers are in one of the three orders
-data Compared (m n : ℕ) : Type 0 where
-  below : m < n → Compared m n
-  equal : m ≡ n → Compared m n
-  above : n < m → Compared m n
-
-compared : (m n : ℕ) → Compared m n
-compared m n = by_less (dec_lt m n) (dec_lt n m)
-  where
-    by_less : Dec (m < n) → Dec (n < m) → Compared m n
-    by_less (yes h) k = below h
-    by_less (no h) (yes k) = above k
-    by_less (no h) (no k) = equal (omega arith)
-
-module _ (k : ℕ) (p d : Tower (suc k)) where
-  high : ℕ
-  high = code k ((ops k).add p.0 d.0)
-
-  less_lower_at : (code k ((ops k).add p.0 d.0) < code k p.0 → (tools k).Lower p.0 d.0)
-      → (code k ((ops k).add p.1 d.1) < code k p.1 → (tools k).Lower p.1 d.1)
-      → code (suc k) ((ops (suc k)).add p d) < code (suc k) p → Compared high (code k p.0) → (tools (suc k)).Lower p d
-  unfolding code ops tools high
-  less_lower_at f g h (below l) = inl (f l)
-  less_lower_at f g h (equal e) = inr (nil, g (omega (arith, ap (λ n. n * order k) e)))
-    where
-      same : (ops k).add p.0 d.0 ≡ p.0
-      same = code_injective k ((ops k).add p.0 d.0) p.0 e
-
-      nil : d.0 ≡ (ops k).nil
-      nil =
-          sym (add_twice (Tower k) (ops k) (laws k).ring p.0 d.0) ∙ ap ((ops k).add p.0) same ∙ (laws k).ring.add_self p.0
-  less_lower_at f g h (above l) = absurd (omega (arith, mul-le-mul_right (order k) l, code_below k p.1))
+    same = cc (h.0, (laws k).ring.add_nil p.0)
 
 pub less_lower : (k : ℕ) (p d : Tower k) → code k ((ops k).add p d) < code k p → (tools k).Lower p d
 unfolding code ops tools
@@ -162,6 +114,27 @@ less_lower zero true true h = tt
 less_lower zero true false h = absurd (omega arith)
 less_lower zero false true h = absurd (omega arith)
 less_lower zero false false h = absurd (omega arith)
-less_lower (suc k) p d h =
-    less_lower_at k p d (less_lower k p.0 d.0) (less_lower k p.1 d.1) h
-    (compared (high k p d) (code k p.0))
+less_lower (suc k) p d h = by_high (dec_lt high (code k p.0)) (less_lower k p.0 d.0) (less_lower k p.1 d.1)
+  where
+    high : ℕ
+    high = code k ((ops k).add p.0 d.0)
+
+    by_high : Dec (high < code k p.0) → (high < code k p.0 → (tools k).Lower p.0 d.0)
+        → (code k ((ops k).add p.1 d.1) < code k p.1 → (tools k).Lower p.1 d.1) → (tools (suc k)).Lower p d
+    by_high (yes l) f g = inl (f l)
+    by_high (no l) f g = inr (nil, g (omega (arith, ap (λ n. n * order k) equal)))
+      where
+        not_above : code k p.0 < high → ⊥
+        not_above m = omega (arith, mul-le-mul_right (order k) m, code_below k p.1)
+
+        equal : high ≡ code k p.0
+        equal = omega (arith, not_above)
+
+        nil : d.0 ≡ (ops k).nil
+        nil = cc (
+          equal,
+          decode_code k ((ops k).add p.0 d.0),
+          decode_code k p.0,
+          add_twice (Tower k) (ops k) (laws k).ring p.0 d.0,
+          (laws k).ring.add_self p.0,
+        )

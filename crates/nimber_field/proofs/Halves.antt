@@ -1,5 +1,5 @@
 -- What the code of a level computes of halves. Assumes nothing.
-use mathlib.Core.Path.{◌≡◌, sym, ap, ◌∙◌}
+use mathlib.Core.Path.{◌≡◌}
 use Prim.Native.Nat.{ℕ, ◌-◌, ◌^◌}
 use Rattle.nimber_field.specs.Tower.{Tower, ops}
 use Rattle.nimber_field.specs.Nimber.{decode}
@@ -15,4 +15,4 @@ module _ (k : ℕ) where
   cross x u y v = simp (ring, (laws k).ring)
 
   pub decode_half : decode k (2 ^ (2 ^ k - 1)) ≡ half
-  decode_half = ap (decode k) (sym (code_half k)) ∙ decode_code k half
+  decode_half = cc (code_half k, decode_code k half)

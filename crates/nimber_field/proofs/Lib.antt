@@ -1,9 +1,11 @@
+pub mod Sums
 pub mod Ring
 pub mod Laws
 pub mod Pairs
 pub mod Levels
 pub mod Codes
 pub mod Numbers
+pub mod Below
 pub mod Conway
 pub mod Halves
 pub mod Products

@@ -2,7 +2,7 @@
 use mathlib.Core.Path.{◌≡◌, refl, sym, ap, ◌∙◌}
 use mathlib.Core.Bool.{Bool, true, false, true≢false}
 use mathlib.Core.Logic.{◌⊎◌, inl, inr, ◌≢◌}
-use Rattle.nimber_field.specs.Tower.{Ops, differ, pairs}
+use Rattle.nimber_field.specs.Tower.{Ops, norm, pairs}
 use Rattle.nimber_field.proofs.Ring.{ring, pair_ring}
 use Rattle.nimber_field.proofs.Laws.{Tools, Laws, Factors, exchange, top_nil, cancel, divided}
 
@@ -36,35 +36,28 @@ module _ (K : Type 0) (R : Ops K) (X : Tools K) (L : Laws K R X) where
   both : {a b c d : K} → a ≡ c → b ≡ d → ◌≡◌ {A = K × K} (a, b) (c, d)
   both p q i = (p i, q i)
 
-  norm : K → K → K
-  norm a b = add (mul b b) (add (mul b a) (mul (mul a a) half))
-
   -- s s + s + half is never zero, by its highest bit
   never_nil : (s : K) → add (add (mul s s) s) half ≢ nil
-  never_nil s e = true≢false (sym bit ∙ ap top e ∙ top_nil K R X L)
-    where
-      bit : top (add (add (mul s s) s) half) ≡ true
-      bit = L.top_add (add (mul s s) s) half ∙ (λ i. differ (L.top_square s i) (L.top_half i))
+  never_nil s e =
+      true≢false (cc (L.top_add (add (mul s s) s) half, L.top_square s, L.top_half, top_nil K R X L))
 
-  norm_scaled : (a s : K) → norm a (mul s a) ≡ mul (mul a a) (add (add (mul s s) s) half)
-  unfolding norm
+  norm_scaled : (a s : K) → norm K R a (mul s a) ≡ mul (mul a a) (add (add (mul s s) s) half)
   norm_scaled a s = simp (ring, L.ring)
 
-  norm_at_nil : (b : K) → norm nil b ≡ mul b b
-  unfolding norm
+  norm_at_nil : (b : K) → norm K R nil b ≡ mul b b
   norm_at_nil b = simp (norm, ring, L.ring)
 
-  norm_not_nil : (a b : K) → ◌≢◌ {A = K × K} (a, b) (nil, nil) → norm a b ≢ nil
+  norm_not_nil : (a b : K) → ◌≢◌ {A = K × K} (a, b) (nil, nil) → norm K R a b ≢ nil
   norm_not_nil a b n e = by_high (L.nil_or_not a)
     where
       at_nil : a ≡ nil → b ≢ nil
       at_nil h k = n (both h k)
 
       squared : a ≡ nil → mul b b ≡ nil
-      squared h = sym (norm_at_nil b) ∙ ap (λ w. norm w b) (sym h) ∙ e
+      squared h = cc (norm_at_nil b)
 
-      scaled : a ≢ nil → norm a b ≡ mul (mul a a) (add (add (mul (mul b (inv a)) (mul b (inv a))) (mul b (inv a))) half)
-      scaled h = ap (norm a) (sym (divided K R X L b a h)) ∙ norm_scaled a (mul b (inv a))
+      scaled : a ≢ nil → norm K R a b ≡ mul (mul a a) (add (add (mul (mul b (inv a)) (mul b (inv a))) (mul b (inv a))) half)
+      scaled h = cc (divided K R X L b a h, norm_scaled a (mul b (inv a)))
 
       square_not_nil : a ≢ nil → mul a a ≢ nil
       square_not_nil h k = h (cancel K R X L a a h k)
@@ -74,16 +67,16 @@ module _ (K : Type 0) (R : Ops K) (X : Tools K) (L : Laws K R X) where
       by_high (inr h) = never_nil (mul b (inv a)) (cancel K R X L (mul a a) _ (square_not_nil h) (sym (scaled h) ∙ e))
 
   pair_inverse : (x : K × K) → x ≢ P.nil → P.mul x (P.inv x) ≡ P.one
-  unfolding P norm
-  pair_inverse x n = both high (low ∙ L.inverse (norm x.0 x.1) (norm_not_nil x.0 x.1 n))
+  unfolding P
+  pair_inverse x n = both high (low ∙ L.inverse (norm K R x.0 x.1) (norm_not_nil x.0 x.1 n))
     where
       m : K
-      m = inv (norm x.0 x.1)
+      m = inv (norm K R x.0 x.1)
 
       high : (P.mul x (P.inv x)).0 ≡ nil
       high = simp (ring, L.ring)
 
-      low : (P.mul x (P.inv x)).1 ≡ mul (norm x.0 x.1) (inv (norm x.0 x.1))
+      low : (P.mul x (P.inv x)).1 ≡ mul (norm K R x.0 x.1) (inv (norm K R x.0 x.1))
       low = simp (ring, L.ring)
 
   abbrev PX : Tools (K × K)
@@ -136,7 +129,7 @@ module _ (K : Type 0) (R : Ops K) (X : Tools K) (L : Laws K R X) where
     v = (f.v, mul t f.v);
     u_lower = inl f.u_lower;
     v_lower = inl f.v_lower;
-    is = both (high ∙ ap (λ w. mul w (add one (add s t))) f.is ∙ h) (low ∙ ap (λ w. mul w (add (mul s t) half)) f.is ∙ l);
+    is = both (cc (high, f.is)) (cc (low, f.is));
   }
     where
       high : ((pairs K R).mul (f.u, mul s f.u) (f.v, mul t f.v)).0 ≡ mul (mul f.u f.v) (add one (add s t))
@@ -159,7 +152,7 @@ module _ (K : Type 0) (R : Ops K) (X : Tools K) (L : Laws K R X) where
       regroup = simp (ring, L.ring)
 
       low : mul d.0 (add (mul s s) half) ≡ mul (mul d.1 (inv d.0)) d.0
-      low = ap (λ w. mul d.0 (add w half)) (L.roots (add (mul d.1 (inv d.0)) half)) ∙ regroup
+      low = cc (L.roots (add (mul d.1 (inv d.0)) half), regroup)
 
   -- the low part of a b falls by the product of the high parts with half: s solves an equation
   at_half : (a b d : K × K) → d.0 ≡ nil → Factors K R X (mul a.0 b.0) half d.1 → Split a b d
@@ -169,7 +162,7 @@ module _ (K : Type 0) (R : Ops K) (X : Tools K) (L : Laws K R X) where
       s = solve (add f.v half)
 
       even : top (add f.v half) ≡ false
-      even = L.top_add f.v half ∙ (λ i. differ (L.lower_half f.v f.v_lower i) (L.top_half i))
+      even = cc (L.top_add f.v half, L.lower_half f.v f.v_lower, L.top_half)
 
       high : mul f.u (add one (add s (add s one))) ≡ nil
       high = simp (ring, L.ring)
@@ -234,7 +227,7 @@ module _ (K : Type 0) (R : Ops K) (X : Tools K) (L : Laws K R X) where
 
   shifted_even : (t : Bool) (s c : K) → top (add c (mul (mul s s) half)) ≡ t
       → top (add c (mul (mul (shifted K R X t s) (shifted K R X t s)) half)) ≡ false
-  shifted_even true s c e = ap top regroup ∙ L.top_add (add c (mul (mul s s) half)) half ∙ (λ i. differ (e i) (L.top_half i))
+  shifted_even true s c e = cc (regroup, L.top_add (add c (mul (mul s s) half)) half, L.top_half)
     where
       regroup : add c (mul (mul (add s one) (add s one)) half) ≡ add (add c (mul (mul s s) half)) half
       regroup = simp (ring, L.ring)
@@ -304,7 +297,6 @@ module _ (K : Type 0) (R : Ops K) (X : Tools K) (L : Laws K R X) where
   unfolding P
   pair_laws = record {
     ring = pair_ring K R L.ring;
-    one_not_nil = λ e. L.one_not_nil (ap (λ y. y.1) e);
     nil_or_not = pair_nil_or_not;
     inverse = pair_inverse;
     top_add = λ x y. L.top_add x.0 y.0;
@@ -316,6 +308,5 @@ module _ (K : Type 0) (R : Ops K) (X : Tools K) (L : Laws K R X) where
     nil_not_lower = pair_nil_not_lower;
     lower_add = pair_lower_add;
     lower_half = pair_lower_half;
-    half_lower = λ f e. inl (L.half_lower f.0 e);
     factors = pair_factors;
   }

@@ -1,5 +1,5 @@
 -- Commutative rings in which x + x = 0, and the ring of their pairs. Assumes nothing.
-use mathlib.Core.Path.{◌≡◌, sym, ap, ◌∙◌}
+use mathlib.Core.Path.{◌≡◌, ◌∙◌}
 use Rattle.nimber_field.specs.Tower.{Ops, pairs}
 
 -- a commutative ring in which every element is its own negative
@@ -17,6 +17,7 @@ pub record Ring (K : Type 0) (R : Ops K) : Type 0 where
 module _ (K : Type 0) (R : Ops K) (L : Ring K R) where
   open R use {nil, one, half, add, mul}
 
+  -- the laws by names of their own, since a rule set lists declared names
   pub add_assoc : (x y z : K) → add (add x y) z ≡ add x (add y z)
   add_assoc = L.add_assoc
 
@@ -24,7 +25,7 @@ module _ (K : Type 0) (R : Ops K) (L : Ring K R) where
   add_comm = L.add_comm
 
   pub add_left_comm : (x y z : K) → add x (add y z) ≡ add y (add x z)
-  add_left_comm x y z = sym (add_assoc x y z) ∙ ap (λ w. add w z) (add_comm x y) ∙ add_assoc y x z
+  add_left_comm x y z = cc (add_assoc x y z, add_comm x y, add_assoc y x z)
 
   pub add_nil : (x : K) → add x nil ≡ x
   add_nil = L.add_nil
@@ -36,7 +37,7 @@ module _ (K : Type 0) (R : Ops K) (L : Ring K R) where
   add_self = L.add_self
 
   pub add_twice : (x y : K) → add x (add x y) ≡ y
-  add_twice x y = sym (add_assoc x x y) ∙ ap (λ w. add w y) (add_self x) ∙ nil_add y
+  add_twice x y = cc (add_assoc x x y, add_self x, nil_add y)
 
   pub mul_assoc : (x y z : K) → mul (mul x y) z ≡ mul x (mul y z)
   mul_assoc = L.mul_assoc
@@ -45,7 +46,7 @@ module _ (K : Type 0) (R : Ops K) (L : Ring K R) where
   mul_comm = L.mul_comm
 
   pub mul_left_comm : (x y z : K) → mul x (mul y z) ≡ mul y (mul x z)
-  mul_left_comm x y z = sym (mul_assoc x y z) ∙ ap (λ w. mul w z) (mul_comm x y) ∙ mul_assoc y x z
+  mul_left_comm x y z = cc (mul_assoc x y z, mul_comm x y, mul_assoc y x z)
 
   pub mul_one : (x : K) → mul x one ≡ x
   mul_one = L.mul_one
@@ -63,7 +64,7 @@ module _ (K : Type 0) (R : Ops K) (L : Ring K R) where
   distrib = L.distrib
 
   pub distrib_right : (x y z : K) → mul (add x y) z ≡ add (mul x z) (mul y z)
-  distrib_right x y z = mul_comm (add x y) z ∙ distrib z x y ∙ (λ i. add (mul_comm z x i) (mul_comm z y i))
+  distrib_right x y z = cc (mul_comm (add x y) z, distrib z x y, mul_comm z x, mul_comm z y)
 
   -- sums of products in order, equal ones cancelled
   pub ruleset ring = (
@@ -87,22 +88,13 @@ module _ (K : Type 0) (R : Ops K) (L : Ring K R) where
 
   pub pair_ring : Ring (K × K) (pairs K R)
   pair_ring = record {
-    add_assoc = λ x y z i. (add_assoc x.0 y.0 z.0 i, add_assoc x.1 y.1 z.1 i);
-    add_comm = λ x y i. (add_comm x.0 y.0 i, add_comm x.1 y.1 i);
-    add_nil = λ x i. (add_nil x.0 i, add_nil x.1 i);
-    add_self = λ x i. (add_self x.0 i, add_self x.1 i);
-    mul_assoc = λ x y z. both (assoc_high x y z) (assoc_low x y z);
-    mul_comm = λ x y. both (simp ring) (simp ring);
-    mul_one = λ x. both (simp ring) (simp ring);
-    mul_nil = λ x. both (simp ring) (simp ring);
-    distrib = λ x y z. both (simp ring) (simp ring);
+    add_assoc = λ x y z. simp ring;
+    add_comm = λ x y. simp ring;
+    add_nil = λ x. simp ring;
+    add_self = λ x. simp ring;
+    mul_assoc = λ x y z. simp ring;
+    mul_comm = λ x y. simp ring;
+    mul_one = λ x. simp ring;
+    mul_nil = λ x. simp ring;
+    distrib = λ x y z. simp ring;
   }
-    where
-      both : {a b c d : K} → a ≡ c → b ≡ d → ◌≡◌ {A = K × K} (a, b) (c, d)
-      both p q i = (p i, q i)
-
-      assoc_high : (x y z : K × K) → ((pairs K R).mul ((pairs K R).mul x y) z).0 ≡ ((pairs K R).mul x ((pairs K R).mul y z)).0
-      assoc_high x y z = simp ring
-
-      assoc_low : (x y z : K × K) → ((pairs K R).mul ((pairs K R).mul x y) z).1 ≡ ((pairs K R).mul x ((pairs K R).mul y z)).1
-      assoc_low x y z = simp ring

@@ -4,14 +4,14 @@ use mathlib.Core.Bool.{Bool, true, false, cond, not}
 use mathlib.Core.Logic.{◌≢◌}
 use Prim.Native.Nat.{ℕ, zero, suc, ◌+◌, ◌^◌, ◌<◌}
 use native.Mathlib.Decide.{ℕ_discrete}
-use native.Mathlib.Nat.{two-pow-succ}
+use native.Mathlib.Nat.{two-pow-succ, pos_of_ne-zero}
 use native.Mathlib.Omega.{arith}
 use borrow.Author.Tests.{eqb-true, eqb-false}
 use lib.Dec.{eqb}
-use lib.Bits.{xor_comm, xor_self, xor_zero_l}
+use lib.Bits.{xor_comm, xor_zero_l}
 use Rattle.nimber_field.specs.Tower.{differ}
 use Rattle.nimber_field.specs.Nimber.{◌⊕◌}
-use Rattle.nimber_field.proofs.Products.{xor_twice, xor_equal}
+use Rattle.nimber_field.proofs.Sums.{differ_false, sums, xor_equal}
 use Rattle.games.specs.Rules.{Rules, Lawful, rest}
 use Rattle.play.specs.Play.{Coins, after, Legal, Won, wins, Lost, loses, position_value, Decided, Decides}
 use Rattle.play.proofs.Turning.{on_board, value_after, Lowers, lowers}
@@ -24,11 +24,7 @@ weight (suc n) u = weight n u + cond (u n) (2 ^ n) 0
 weight_below : (n : ℕ) (u : Coins) → weight n u < 2 ^ n
 unfolding weight
 weight_below zero u = omega arith
-weight_below (suc n) u = at (u n) (weight_below n u)
-  where
-    at : (b : Bool) → weight n u < 2 ^ n → weight n u + cond b (2 ^ n) 0 < 2 ^ suc n
-    at true h = omega (arith, two-pow-succ n)
-    at false h = omega (arith, two-pow-succ n)
+weight_below (suc n) u = grind (arith, two-pow-succ n, weight_below n u)
 
 -- it falls where the highest coin that changes goes to tails
 weight_falls : (n c : ℕ) (u v : Coins) → c < n → u c ≡ true → v c ≡ false → ((d : ℕ) → c < d → v d ≡ u d) → weight n v < weight n u
@@ -38,11 +34,11 @@ weight_falls (suc n) c u v l h t same = by_last (ℕ_discrete c n) (λ k. weight
   where
     by_last : Dec (c ≡ n) → (c < n → weight n v < weight n u) → weight (suc n) v < weight (suc n) u
     by_last (yes e) ih =
-        let gone : cond (v n) (2 ^ n) 0 ≡ 0 = ap (λ b. cond b (2 ^ n) 0) (ap v (sym e) ∙ t) in
-        let there : cond (u n) (2 ^ n) 0 ≡ 2 ^ n = ap (λ b. cond b (2 ^ n) 0) (ap u (sym e) ∙ h) in
+        let gone : cond (v n) (2 ^ n) 0 ≡ 0 = cc in
+        let there : cond (u n) (2 ^ n) 0 ≡ 2 ^ n = cc in
         omega (arith, weight_below n v)
     by_last (no e) ih =
-        let equal : cond (v n) (2 ^ n) 0 ≡ cond (u n) (2 ^ n) 0 = ap (λ b. cond b (2 ^ n) 0) (same n (omega arith)) in
+        let equal : cond (v n) (2 ^ n) 0 ≡ cond (u n) (2 ^ n) 0 = cc (same n (omega arith)) in
         omega (arith, ih (omega arith))
 
 module _ (G : Rules) (P : Lawful G) where
@@ -52,13 +48,9 @@ module _ (G : Rules) (P : Lawful G) where
       weight_falls G.cells c u (after G u c i) (on_board G P c i l.numbered) l.heads
       (λ j. differ (l.heads j) (P.own c i l.numbered j)) (λ d k. above d k (G.holds c i d) refl)
     where
-      keep : (b : Bool) → differ b false ≡ b
-      keep true = refl
-      keep false = refl
-
       above : (d : ℕ) → c < d → (b : Bool) → G.holds c i d ≡ b → differ (u d) (G.holds c i d) ≡ u d
       above d k true e = absurd (omega (arith, P.not_above c i d e))
-      above d k false e = ap (differ (u d)) e ∙ keep (u d)
+      above d k false e = ap (differ (u d)) e ∙ differ_false (u d)
 
   -- from value 0 no move leads to value 0
   pub leaves_zero : (u : Coins) (c i : ℕ) → Legal G u c i → position_value G u ≡ 0 → position_value G (after G u c i) ≢ 0
@@ -66,17 +58,12 @@ module _ (G : Rules) (P : Lawful G) where
       (P.smallest c).misses (record {
         move = i;
         numbered = l.numbered;
-        is = xor_equal (rest G c i) (G.worth c) (sym (value_after G P u c i l.numbered ∙ ap (λ s. s ⊕ (rest G c i ⊕ G.worth c)) e ∙ xor_zero_l _) ∙ z);
+        is = xor_equal (rest G c i) (G.worth c) (cc (value_after G P u c i l.numbered, xor_zero_l (rest G c i ⊕ G.worth c)));
       })
 
   -- a head whose value a move can bring down so that the position comes to value 0
   pub move_to_zero : (u : Coins) (c i : ℕ) → i < G.count c → rest G c i ≡ G.worth c ⊕ position_value G u → position_value G (after G u c i) ≡ 0
-  move_to_zero u c i h e =
-      value_after G P u c i h ∙ ap (λ r. v ⊕ (r ⊕ G.worth c)) e
-      ∙ ap (λ s. v ⊕ s) (xor_comm (G.worth c ⊕ v) (G.worth c) ∙ xor_twice (G.worth c) v) ∙ xor_self v
-    where
-      v : ℕ
-      v = position_value G u
+  move_to_zero u c i h e = value_after G P u c i h ∙ simp (e, sums)
 
   pub record Winner (u : Coins) : Type 0 where
     pub cell : ℕ
@@ -85,26 +72,19 @@ module _ (G : Rules) (P : Lawful G) where
     pub lower : G.worth cell ⊕ position_value G u < G.worth cell
 
   pub winner : (u : Coins) → position_value G u ≢ 0 → Winner u
-  winner u n = at (lowers G.cells (λ d. cond (u d) (G.worth d) 0) 0 (positive (position_value G u) n))
+  winner u n = at (lowers G.cells (λ d. cond (u d) (G.worth d) 0) 0 (pos_of_ne-zero n))
     where
-      positive : (v : ℕ) → v ≢ 0 → 0 < v
-      positive v m = omega arith
-
       at : Lowers G.cells (λ d. cond (u d) (G.worth d) 0) 0 → Winner u
-      at r = by_coin (u r.term) refl
+      at r = by_coin (u r.term) refl r.lower
         where
-          c : ℕ
-          c = r.term
-
-          by_coin : (b : Bool) → u c ≡ b → Winner u
-          by_coin true e = record {
-            cell = c;
+          by_coin : (b : Bool) → u r.term ≡ b → position_value G u ⊕ cond b (G.worth r.term) 0 < cond b (G.worth r.term) 0 → Winner u
+          by_coin true e l = record {
+            cell = r.term;
             on = r.below;
             heads = e;
-            lower = subst (λ m. m < G.worth c) (xor_comm (position_value G u) (G.worth c)) (subst (λ b. position_value G u ⊕ cond b (G.worth c) 0 < cond b (G.worth c) 0) e r.lower);
+            lower = subst (λ m. m < G.worth r.term) (xor_comm (position_value G u) (G.worth r.term)) l;
           }
-          by_coin false e =
-              absurd (omega (arith, subst (λ b. position_value G u ⊕ cond b (G.worth c) 0 < cond b (G.worth c) 0) e r.lower))
+          by_coin false e l = absurd (omega arith)
 
   decide : (k : ℕ) (u : Coins) → weight G.cells u < k → (position_value G u ≡ 0 → Lost G u) × (position_value G u ≢ 0 → Won G u)
   decide zero u h = absurd (omega arith)
