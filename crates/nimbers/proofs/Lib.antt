@@ -1,2 +1,4 @@
 pub mod Tables
 pub mod Digits
+pub mod Levels
+pub mod Sizes

@@ -9,6 +9,16 @@ pub trait Level: Copy {
 
     ghost element: { Self → Tower level };
 
+    // The element of 0.
+    const ZERO: Self;
+
+    ghost ZERO: { Self };
+
+    // The element of half the order, by which a product of high halves is folded.
+    const HALF: Self;
+
+    ghost HALF: { Self };
+
     // The element that the lowest bits of n are written for, and the bits above them.
     fn split(n: u32) -> (Self, u32)
         ensures lowest { element result.0 ≡ decode level n }
@@ -17,14 +27,6 @@ pub trait Level: Copy {
     // The number that an element is written as, below the bits of another number.
     fn join(self, above: u32) -> u32
         ensures { result ≡ (above * order level + code level (element self)) % 2 ^ 32 };
-
-    // The element of 0.
-    fn zero() -> Self
-        ensures { element result ≡ (ops level).nil };
-
-    // The element of half the order, by which a product of high halves is folded.
-    fn half() -> Self
-        ensures { element result ≡ (ops level).half };
 
     fn sum(self, other: Self) -> Self
         ensures { element result ≡ (ops level).add (element self) (element other) };
@@ -35,4 +37,8 @@ pub trait Level: Copy {
     // The inverse; of zero it is zero.
     fn inverse(self) -> Self
         ensures { element result ≡ (ops level).inv (element self) };
+
+    ghost zero_law: { element ZERO ≡ (ops level).nil };
+
+    ghost half_law: { element HALF ≡ (ops level).half };
 }

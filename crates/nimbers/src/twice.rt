@@ -1,11 +1,12 @@
 // The level above another: its elements are pairs of halves.
 ghost use Rattle.std.specs.Prelude.{◌≡◌, ℕ, suc};
 ghost use Rattle.nimber_field.specs.Tower.{Tower, ops, norm};
+ghost use Rattle.nimbers.specs.Laws.{half_above, zero_above};
 
 use crate::level::Level;
 
 // The element high F + low, where F is the first element that the halves lack.
-#[derive(Clone, Copy)]
+#[derive(Clone, Copy, Debug, PartialEq, Eq)]
 pub struct Twice<H> {
     high: H,
     low: H,
@@ -17,7 +18,7 @@ impl<H: Level> Twice<H> {
         ensures { H.element result ≡ norm (Tower H.level) (ops H.level) (H.element self.high) (H.element self.low) }
     {
         let middle = self.low.product(self.high);
-        let folded = self.high.product(self.high).product(H::half());
+        let folded = self.high.product(self.high).product(H::HALF);
         self.low.product(self.low).sum(middle.sum(folded))
     }
 }
@@ -28,6 +29,24 @@ impl<H: Level> Level for Twice<H> {
 
     ghost element = { λ x. (H.element x.high, H.element x.low) };
 
+    const ZERO: Twice<H> = Twice {
+        high: H::ZERO,
+        low: H::ZERO,
+    };
+
+    ghost ZERO = { record { high = H.ZERO; low = H.ZERO } };
+
+    const HALF: Twice<H> = Twice {
+        high: H::HALF,
+        low: H::ZERO,
+    };
+
+    ghost HALF = { record { high = H.HALF; low = H.ZERO } };
+
+    ghost zero_law = { zero_above H.level _ H.zero_law };
+
+    ghost half_law = { half_above H.level _ _ H.half_law H.zero_law };
+
     fn split(n: u32) -> (Twice<H>, u32) {
         let (low, above) = H::split(n);
         let (high, above) = H::split(above);
@@ -36,20 +55,6 @@ impl<H: Level> Level for Twice<H> {
 
     fn join(self, above: u32) -> u32 {
         self.low.join(self.high.join(above))
-    }
-
-    fn zero() -> Twice<H> {
-        Twice {
-            high: H::zero(),
-            low: H::zero(),
-        }
-    }
-
-    fn half() -> Twice<H> {
-        Twice {
-            high: H::half(),
-            low: H::zero(),
-        }
     }
 
     fn sum(self, other: Twice<H>) -> Twice<H> {
@@ -63,7 +68,7 @@ impl<H: Level> Level for Twice<H> {
         let low = self.low.product(other.low);
         let high = self.high.product(other.high);
         let cross = self.high.sum(self.low).product(other.high.sum(other.low));
-        let folded = high.product(H::half());
+        let folded = high.product(H::HALF);
         Twice {
             high: cross.sum(low),
             low: low.sum(folded),

@@ -8,4 +8,5 @@ returns g c =
     let element = g.H.Level.element in
     let a = c.args.self in
     let b = c.args.other in
-    let three = cross g.H.Level.level (element a.high) (element a.low) (element b.high) (element b.low) in cc
+    let three = cross g.H.Level.level (element a.high) (element a.low) (element b.high) (element b.low) in
+    let half = g.met.H.Level.half_law in cc
