@@ -1,3 +1,4 @@
+pub mod Cells
 pub mod Rules
 pub mod Rows
 pub mod Twins

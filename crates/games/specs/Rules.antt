@@ -60,5 +60,6 @@ abbrev pub LowestReply : Rules → ℕ → ℕ → Option ℕ → Type 0
 LowestReply G c w None = G.worth c ≤ w
 LowestReply G c w (Some i) = (w < G.worth c) × (i < G.count c) × (rest G c i ≡ w) × ((j : ℕ) → j < i → rest G c j ≢ w)
 
+-- a game's replies are such
 abbrev pub LowestReplies : Rules → Type 0
 LowestReplies G = (c w : ℕ) → LowestReply G c w (G.answer c w)

@@ -1,6 +1,7 @@
 // Coin-turning games: what a game is, and the four that ship.
 #![tactic(auto)]
 
+pub mod cells;
 mod row;
 mod row_game;
 mod rule;
@@ -10,6 +11,7 @@ pub mod take;
 pub mod turtles;
 pub mod twins;
 
+pub use cells::Cells;
 pub use ruler::Ruler;
 pub use rules::Game;
 pub use take::Take;

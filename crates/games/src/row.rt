@@ -1,6 +1,9 @@
 // A row of up to 64 cells.
 ghost use Rattle.std.specs.Prelude.{◌≡◌, ◌≤◌, if◌then◌else◌, nat_le, nat_lt};
 
+// The width of the widest row.
+const WIDEST: u32 = 64;
+
 #[derive(Clone, Copy, Debug, PartialEq, Eq)]
 pub struct Row {
     size: u32,
@@ -13,7 +16,7 @@ impl Row {
         ensures { result.size ≡ (if nat_le width 64 then width else 0) }
     {
         Row {
-            size: if width <= 64 { width } else { 0 },
+            size: if width <= WIDEST { width } else { 0 },
         }
     }
 

@@ -1,10 +1,11 @@
 // A game on one row of cells.
-ghost use Rattle.std.specs.Prelude.{◌≡◌};
+ghost use Rattle.std.specs.Prelude.{◌≡◌, nat_lt};
 ghost use Rattle.games.specs.Rows.{board, row_game_of};
 ghost use Rattle.games.specs.Rules.{LowestReplies};
 ghost use Rattle.games.specs.Laws.RowLaws.{lowest_replies, row_lawful, row_lowest};
 ghost use Rattle.std.proofs.Common.{le_trans, lit≤};
 
+use crate::cells::Cells;
 use crate::row::Row;
 use crate::rule::Rule;
 use crate::rules::Game;
@@ -17,7 +18,7 @@ pub struct RowGame<R> {
 }
 
 impl<R: Rule> RowGame<R> {
-    // The game on a row of that width; no width above 64 has cells.
+    // The game on a row of that width; no width above 64 has cells. Each game has a `new` of its own, whose clauses say what it is.
     pub(crate) fn of(rule: R, width: u32) -> RowGame<R>
         ensures size { result.row.size ≡ board width }
         ensures rule { result.rule ≡ rule }
@@ -27,6 +28,13 @@ impl<R: Rule> RowGame<R> {
             row: Row::new(width),
             rule,
         }
+    }
+
+    // Whether there is a move i at c.
+    fn is_move(&self, c: u32, i: u32) -> bool
+        ensures { result ≡ nat_lt i ((row_game_of (R.Rule.rule self.now.rule) self.now.row.size).count c) }
+    {
+        i < self.count(c)
     }
 }
 
@@ -45,6 +53,7 @@ impl<R: Rule> Game for RowGame<R> {
         self.rule.ceiling(self.row)
     }
 
+    // Count and value each by itself: one function would take a closure that the rule allows at cells of the row alone.
     fn count(&self, c: u32) -> u32 {
         if self.row.has(c) {
             self.rule.count(c)
@@ -54,7 +63,15 @@ impl<R: Rule> Game for RowGame<R> {
     }
 
     fn turns(&self, c: u32, i: u32, d: u32) -> bool {
-        i < self.count(c) && self.rule.turns(c, i, d)
+        self.is_move(c, i) && self.rule.turns(c, i, d)
+    }
+
+    fn turned(&self, c: u32, i: u32) -> Cells {
+        if self.is_move(c, i) {
+            self.rule.turned(c, i)
+        } else {
+            Cells::new()
+        }
     }
 
     fn value(&self, c: u32) -> u32 {

@@ -1,7 +1,9 @@
 // What the games on a row of cells differ in.
-ghost use Rattle.std.specs.Prelude.{◌≡◌, ℕ, ◌<◌, ◌≤◌};
+ghost use Rattle.std.specs.Prelude.{◌≡◌, ℕ, ◌+◌, ◌<◌, ◌≤◌};
+ghost use Rattle.games.specs.Cells.{held, held_below};
 ghost use Rattle.games.specs.Rows.{LowestMove, RowLaws, RowRule};
 
+use crate::cells::Cells;
 use crate::row::Row;
 
 // A rule, by what it gives at each cell of a row. Cells are plain numbers, as in the formulas of the games: `c + 1`, and not `c.number + 1`.
@@ -23,6 +25,21 @@ pub trait Rule {
         requires cell { c < 64 }
         requires numbered { i < (rule self.now).count c }
         ensures { result ≡ (rule self.now).turns c i d };
+
+    // The cells that move i at c turns. A rule may find them more quickly than one by one.
+    fn turned(&self, c: u32, i: u32) -> Cells
+        requires cell { c < 64 }
+        requires numbered { i < (rule self.now).count c }
+        ensures { held result ≡ held_below (c + 1) ((rule self.now).turns c i) }
+    {
+        let mut cells = Cells::new();
+        for d in 0..c + 1 {
+            if self.turns(c, i, d) {
+                cells.toggle(d);
+            }
+        }
+        cells
+    }
 
     // The value of a head on c.
     fn value(&self, c: u32) -> u32

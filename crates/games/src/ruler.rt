@@ -27,7 +27,7 @@ impl Ruler {
     }
 }
 
-// The largest power of two that divides c + 1.
+// The largest power of two that divides c + 1; cells are plain numbers here too, as in `Rule`.
 fn mark_at(c: u32) -> u32
     requires { c < 64 }
     ensures { result ≡ mark c }

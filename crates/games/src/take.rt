@@ -13,7 +13,7 @@ mod values;
 #[derive(Clone, Copy, Debug, PartialEq, Eq)]
 pub struct TakeRule {
     set: AmountSet,
-    // A row of its own: a game has no heap.
+    // A row of its own: a game has no heap. 64 as a number, here and in its values: the width of a row is a `u32`, and a length is not.
     values: [u32; 64],
     ghost right: { (c : ℕ) → c < 64 → value_in values c ≡ take_value set.bits c },
 }

@@ -5,6 +5,7 @@ ghost use Rattle.games.specs.Rules.{LowestReplies};
 ghost use Rattle.games.specs.Turtles.{besides, in_pair, is_odious, larger, pairs, turtles, turtles_of, turtles_rule, TopPower, TurnsThree};
 ghost use Rattle.games.specs.Laws.TurtlesLaws.{turtles_keeps, turtles_low};
 
+use crate::cells::Cells;
 use crate::row::Row;
 use crate::row_game::RowGame;
 use crate::rule::Rule;
@@ -47,6 +48,20 @@ impl Rule for TurtlesRule {
         d == c || turns_besides(c, i, d)
     }
 
+    fn turned(&self, c: u32, i: u32) -> Cells {
+        let mut cells = Cells::new();
+        cells.toggle(c);
+        if i > c {
+            let n = i - c - 1;
+            let b = larger_of(n);
+            cells.toggle(b);
+            cells.toggle(n - pairs_below(b));
+        } else if i > 0 {
+            cells.toggle(i - 1);
+        }
+        cells
+    }
+
     fn value(&self, c: u32) -> u32 {
         if has_odd_ones(2 * c) {
             2 * c
@@ -78,7 +93,7 @@ fn pairs_below(n: u32) -> u32
     n * n.saturating_sub(1) / 2
 }
 
-// The larger number of pair n; pairs are listed by the larger and then by the smaller.
+// The larger number of pair n; pairs are listed by the larger and then by the smaller. 63 is the last cell of the widest row: it is the answer where no smaller number is.
 fn larger_of(n: u32) -> u32
     requires { n < pairs 64 }
     ensures value { result ≡ larger n }

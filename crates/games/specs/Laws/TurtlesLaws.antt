@@ -9,7 +9,7 @@ use Rattle.games.specs.Rules.{sum_held, Lawful, LowestReplies}
 use Rattle.games.specs.Rows.{on, LowestMove, RowLaws}
 use Rattle.games.specs.Turtles.{pairs, larger, moves, turned, odious, turtles_rule, turtles, TopPower, TurnsThree}
 use Rattle.games.specs.Laws.Sums.{sum_none, sum_one, sum_two}
-use Rattle.games.specs.Laws.Pairs.{pairs_more, pairs_up, larger_is, pair_of}
+use Rattle.games.specs.Laws.Pairs.{pairs_more, pairs_up, pairs_order, larger_is, pair_of}
 use Rattle.games.specs.Laws.Odious.{ones_zero, ones_sum, odious_half, odious_odd, odd_odious, odious_order, even_half}
 use Rattle.games.specs.Laws.Odious.{top_is, twice_top, top_sum, ones_top, odious_top}
 use Rattle.games.specs.Laws.RowLaws.{row_lawful, row_lowest}
@@ -115,17 +115,20 @@ module _ (c w b : ℕ) (few : c < 64) (h : w < odious c) (even : count_ones w % 
   lower : (j : ℕ) → j < c + 1 + pairs b + (w / 2 - b) → (k : Kind c j) → rest_of k ≢ w
   lower j l (one e) q = omega arith
   lower j l (two a k e) q = omega (arith, ap count_ones q, odious_odd a)
-  lower j l (three a d k m e) q = by_larger (dec_lt d b) (ℕ_discrete d b)
+  lower j l (three a d k m e) q = by_larger (ℕ_discrete d b)
     where
-      by_larger : Dec (d < b) → Dec (d ≡ b) → ⊥
-      by_larger (yes n) o =
+      not_larger : d < b + 1
+      not_larger = pairs_order d (b + 1) (omega (arith, pairs_more b, left_below))
+
+      by_larger : Dec (d ≡ b) → ⊥
+      by_larger (no n) =
           let p = twice_top (w / 2) b t in
+          let smaller : d < b = omega (arith, not_larger) in
           omega (arith, xor_lt (suc t.place) (odious a) (odious d) (omega (arith, p, odious_half a)) (omega (arith, p, odious_half d)), p)
-      by_larger (no n) (yes o) =
+      by_larger (yes o) =
           let s = top_sum (w / 2) b t (odious a) (omega (arith, odious_half a)) in
           let r : odious a ⊕ odious d ≡ odious a ⊕ (2 * b) = ap (λ v. odious a ⊕ v) (ap odious o ∙ odious_top (w / 2) b t) in
           omega (arith, s, r, odious_half a, ap pairs o)
-      by_larger (no n) (no o) = omega (arith, pairs_more b, pairs_up (b + 1) d (omega arith), left_below)
 
   pub best_three : LowestMove turtles_rule c w (c + 1 + pairs b + (w / 2 - b))
   best_three =

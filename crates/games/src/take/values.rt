@@ -4,6 +4,8 @@ ghost use Rattle.games.specs.TakeValues.{leads, SmallestLeading, value_in, take_
 
 use super::amounts::AmountSet;
 
+// Cells are plain numbers here too, as in `Rule`.
+// The set and the values are no struct: in a `TakeRule` the values of all 64 cells are right, and here only those below c.
 impl AmountSet {
     // The smallest amount that leads from c to a cell of value v.
     pub(super) fn smallest_leading(self, values: &[u32; 64], c: u32, v: u32) -> Option<u32>

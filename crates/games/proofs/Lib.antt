@@ -1,0 +1,3 @@
+pub mod Tests
+pub mod CellBits
+pub mod CellSums

@@ -1,0 +1,12 @@
+use Rattle.std.proofs.Common.{◌≡◌, ◌-◌, ◌*◌, ◌/◌, ◌≤◌, drop}
+use Rattle.games.specs.Cells.{held, in_one, raised}
+use Rattle.games.proofs.CellBits.{below}
+use Rattle.games.proofs.cells.Cells.toggle_raised.Given as goal
+
+abbrev pub invariant-loop-k : goal.invariant-loop-k
+invariant-loop-k l = record {
+  last : l.k-iterator.a.end ≡ 128 - l.n / 32;
+  within : l.k-iterator.a.start ≤ 128 - l.n / 32;
+  rest : l.k-iterator.b.rest.now ≡ drop l.k-iterator.a.start l.other.words;
+  toggled : held l.self ≡ in_one (held l.initial.self) (raised l.n (below (32 * l.k-iterator.a.start) (held l.other)));
+}
