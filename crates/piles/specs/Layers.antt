@@ -32,9 +32,11 @@ side_by_side A B = record {
   answer = λ c w. cond (nat_lt c A.cells) (A.answer c w) (B.answer (c - A.cells) w);
 }
 
+-- whether a mixture keeps the limit of cells
 abbrev pub mixes : Rules → Rules → Bool
 mixes A B = nat_le (A.cells + B.cells) 4096
 
+-- the mixture, or the game with no cells where it passes the limit
 abbrev pub mixture : Rules → Rules → Rules
 mixture A B = limited (mixes A B) (side_by_side A B)
 
@@ -78,9 +80,11 @@ crossed A B = record {
   answer = λ c w. product_answer A B (c / B.cells) (c % B.cells) w;
 }
 
+-- whether a product keeps the limits of cells and of moves
 abbrev pub multiplies : Rules → Rules → Bool
 multiplies A B = nat_le (A.cells * B.cells) 4096 && nat_le (A.ceiling * B.ceiling) 4194303
 
+-- the product, or the game with no cells where it passes a limit
 abbrev pub product : Rules → Rules → Rules
 product A B = limited (multiplies A B) (crossed A B)
 

@@ -25,6 +25,7 @@ pub record Claim : Type 0 where
   pub found : ℕ
   pub said : ℕ
 
+-- what was found beside what is said
 abbrev pub claim : ℕ → ℕ → Claim
 claim found said = record { found = found; said = said }
 

@@ -4,16 +4,17 @@ ghost use Rattle.piles.specs.Layers.{mixes, mixture};
 ghost use Rattle.piles.specs.Parts.{IsPart};
 ghost use Rattle.piles.specs.Laws.MixLaws.{mixture_lawful, mixture_replies};
 
-use games::Game;
+use games::rules::MOST_CELLS;
+use games::{Cells, Game};
 
-#[derive(Clone, Copy, Drop)]
+#[derive(Clone, Copy, Debug, PartialEq, Eq, Drop)]
 pub struct Mix<A, B> {
     left: A,
     right: B,
 }
 
 // A cell of the mixture, by its number in the game that it belongs to.
-#[derive(Clone, Copy)]
+#[derive(Clone, Copy, Debug, PartialEq, Eq)]
 enum Part {
     Left(u32),
     Right(u32),
@@ -30,7 +31,7 @@ impl<A: Game, B: Game> Mix<A, B> {
     fn fits(&self) -> bool
         ensures { result ≡ mixes (A.Game.rules self.now.left) (B.Game.rules self.now.right) }
     {
-        self.left.size() + self.right.size() <= 4096
+        self.left.size() + self.right.size() <= MOST_CELLS
     }
 
     // The game that a cell belongs to; a mixture with too many cells has none.
@@ -70,6 +71,7 @@ impl<A: Game, B: Game> Game for Mix<A, B> {
         }
     }
 
+    // Count and value each by itself: one function would take two closures, one for each game.
     fn count(&self, c: u32) -> u32 {
         match self.part(c) {
             Some(Part::Left(c)) => self.left.count(c),
@@ -85,6 +87,18 @@ impl<A: Game, B: Game> Game for Mix<A, B> {
                 .checked_sub(self.left.size())
                 .is_some_and(|d| self.right.turns(c, i, d)),
             None => false,
+        }
+    }
+
+    fn turned(&self, c: u32, i: u32) -> Cells {
+        match self.part(c) {
+            Some(Part::Left(c)) => self.left.turned(c, i),
+            Some(Part::Right(c)) => {
+                let mut cells = Cells::new();
+                cells.toggle_raised(&self.right.turned(c, i), self.left.size());
+                cells
+            }
+            None => Cells::new(),
         }
     }
 

@@ -6,9 +6,9 @@ ghost use Rattle.piles.specs.Laws.PileLaws.{pile_lawful, pile_replies};
 
 use crate::mix::Mix;
 use crate::product::Product;
-use games::{Game, Ruler, Take, Turtles, Twins};
+use games::{Cells, Game, Ruler, Take, Turtles, Twins};
 
-#[derive(Clone, Copy)]
+#[derive(Clone, Copy, Debug, PartialEq, Eq)]
 pub enum Pile {
     TurningCorners(Product<Twins, Twins>),
     Rugs(Product<Ruler, Ruler>),
@@ -19,7 +19,7 @@ pub enum Pile {
 }
 
 impl Pile {
-    // The pile of that number, from 1 to 6.
+    // The pile of that number, from 1 to 6. Four numbers, as a head names them: a struct at each of the many calls is no plainer.
     #[tactic(auto, unfolding(crate::specs::Numbered::numbered))]
     pub fn new(number: u32, w: u32, h: u32, set: u32) -> Option<Pile>
         ensures { option_map pile_of result ≡ numbered number w h set }
@@ -77,6 +77,10 @@ impl Game for Pile {
 
     fn turns(&self, c: u32, i: u32, d: u32) -> bool {
         hand_on!(self, p => p.turns(c, i, d))
+    }
+
+    fn turned(&self, c: u32, i: u32) -> Cells {
+        hand_on!(self, p => p.turned(c, i))
     }
 
     fn value(&self, c: u32) -> u32 {

@@ -5,16 +5,18 @@ ghost use Rattle.piles.specs.Layers.{multiplies, partner, smallest_met, Nothing,
 ghost use Rattle.piles.specs.Layers.{product as product_of};
 ghost use Rattle.piles.specs.Laws.ProductLaws.{product_lawful, product_replies};
 
-use games::Game;
+use games::rules::{MOST_CELLS, MOST_MOVES};
+use games::{Cells, Game};
 
-#[derive(Clone, Copy, Drop)]
+// The fields of a mixture, and another game: only the fields are the same.
+#[derive(Clone, Copy, Debug, PartialEq, Eq, Drop)]
 pub struct Product<A, B> {
     left: A,
     right: B,
 }
 
 // Where a cell of the product stands.
-#[derive(Clone, Copy)]
+#[derive(Clone, Copy, Debug, PartialEq, Eq)]
 struct Place {
     row: u32,
     column: u32,
@@ -33,8 +35,8 @@ impl<A: Game, B: Game> Product<A, B> {
     fn fits(&self) -> bool
         ensures { result ≡ multiplies (A.Game.rules self.now.left) (B.Game.rules self.now.right) }
     {
-        self.left.size() * self.right.size() <= 4096
-            && self.left.ceiling() as u64 * self.right.ceiling() as u64 <= 4_194_303
+        self.left.size() * self.right.size() <= MOST_CELLS
+            && self.left.ceiling() as u64 * self.right.ceiling() as u64 <= MOST_MOVES as u64
     }
 
     // The row and the column of a cell on the board.
@@ -62,6 +64,7 @@ impl<A: Game, B: Game> Game for Product<A, B> {
         product_replies _ _ (A.Game.lawful p.left) (B.Game.lawful p.right) (A.Game.replies p.left)
         (B.Game.replies p.right) };
 
+    // Size and ceiling each by itself: a function of both factors in place of two lines would be no shorter.
     fn size(&self) -> u32 {
         if self.fits() {
             self.left.size() * self.right.size()
@@ -98,6 +101,27 @@ impl<A: Game, B: Game> Game for Product<A, B> {
             && self.right.turns(p.column, i % moves, d % columns)
     }
 
+    // Begins as `turns` does: one function for both would give a place and three numbers, or none.
+    fn turned(&self, c: u32, i: u32) -> Cells {
+        let mut cells = Cells::new();
+        let Some(p) = self.place(c) else {
+            return cells;
+        };
+        let moves = self.right.count(p.column);
+        if i >= self.left.count(p.row) * moves {
+            return cells;
+        }
+        let rows = self.left.turned(p.row, i / moves);
+        let row = self.right.turned(p.column, i % moves);
+        let columns = self.right.size();
+        for r in 0..self.left.size() {
+            if rows.has(r) {
+                cells.toggle_raised(&row, r * columns);
+            }
+        }
+        cells
+    }
+
     fn value(&self, c: u32) -> u32 {
         match self.place(c) {
             Some(p) => nimbers::product(self.left.value(p.row), self.right.value(p.column)),
@@ -116,7 +140,7 @@ impl<A: Game, B: Game> Game for Product<A, B> {
 }
 
 // Numbers below a and b to which the parts have to come so that the product comes to w.
-#[derive(Clone, Copy)]
+#[derive(Clone, Copy, Debug, PartialEq, Eq)]
 struct Meeting {
     left: u32,
     right: u32,

@@ -5,7 +5,8 @@ use Rattle.std.proofs.Math.Arith.{digits_div, digits_mod}
 use Rattle.std.specs.Int.Bits.{xor_assoc, xor_zero_r}
 use Rattle.nimber_field.specs.Missing.{Missing}
 use Rattle.nimber_field.specs.Nimber.{◌⊕◌, ◌⊗◌}
-use Rattle.nimber_field.proofs.Products.{Small, product_zero, zero_product, distributes, distributes_left}
+use Rattle.nimber_field.proofs.Conway.{nimber_field}
+use Rattle.nimber_field.proofs.Products.{Small, product_zero, zero_product, distributes_left}
 use Rattle.games.specs.Rules.{nim_sum, sum_held}
 use Rattle.games.specs.Laws.Sums.{sum_same, sum_below}
 
@@ -25,7 +26,7 @@ pub sum_scaled : (u n : ℕ) (f : ℕ → ℕ) → Small u → ((d : ℕ) → Sm
 unfolding nim_sum
 sum_scaled u zero f hu hf = sym (product_zero u hu)
 sum_scaled u (suc n) f hu hf =
-    ap (λ s. s ⊕ (u ⊗ f n)) (sum_scaled u n f hu hf) ∙ sym (distributes u (nim_sum n f) (f n) hu (sum_below 32 n f (λ d l. hf d)) (hf n))
+    ap (λ s. s ⊕ (u ⊗ f n)) (sum_scaled u n f hu hf) ∙ sym (nimber_field.distributive u (nim_sum n f) (f n) hu (sum_below 32 n f (λ d l. hf d)) (hf n))
 
 -- a value that is held or is 0
 held_small : (b : Bool) (v : ℕ) → Small v → Small (cond b v 0)

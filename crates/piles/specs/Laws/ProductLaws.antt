@@ -7,21 +7,18 @@ use Rattle.std.proofs.Math.Nat.{div-add-mod', mul-le-mul_right}
 use borrow.Author.Tests.{lt-ltb, le-ltb, ltb-true, ltb-false, leb-true}
 use Rattle.std.proofs.lemmas.Bool.{and_parts}
 use Rattle.std.proofs.Math.Arith.{digits_lt, digits_div, digits_mod}
-use Rattle.std.specs.Int.Bits.{xor_self}
 use Rattle.std.proofs.lemmas.Nat.{mul-le, xor_comm}
 use Rattle.nimber_field.specs.Missing.{Missing}
 use Rattle.nimber_field.specs.Nimber.{◌⊕◌, ◌⊗◌, Met}
+use Rattle.nimber_field.proofs.Sums.{xor_twice}
 use Rattle.nimber_field.proofs.Conway.{conway, all_met}
 use Rattle.nimber_field.proofs.Products.{
   Small,
   product_small,
   product_zero,
   zero_product,
-  no_divisors,
-  sum_small,
-  xor_twice,
-  xor_equal,
   excluded_is,
+  unmoved,
   partner_is,
 }
 use Rattle.games.specs.Rules.{Rules, sum_held, rest, IsRest, Lawful, FreeReply, Replies}
@@ -161,27 +158,17 @@ module _ (A B : Rules) (P : Lawful A) (Q : Lawful B) where
   crossed_misses x y hx hy r = at (parts x y r.move (subst (λ n. r.move < n) (cell_count x y hy) r.numbered))
     where
       at : Parts x y r.move → ⊥
-      at p = by_factor (no_divisors u v (sum_small _ _ (P.nimber x) (rest_small A P x p.i)) (sum_small _ _ (Q.nimber y) (rest_small B Q y p.j)) zero_product')
+      at p =
+          by_factor (unmoved (A.worth x) (B.worth y) (rest A x p.i) (rest B y p.j) (P.nimber x) (Q.nimber y) (rest_small A P x p.i) (rest_small B Q y p.j) equal)
         where
-          u : ℕ
-          u = A.worth x ⊕ rest A x p.i
-
-          v : ℕ
-          v = B.worth y ⊕ rest B y p.j
-
-          equal : (A.worth x ⊗ B.worth y) ⊕ (u ⊗ v) ≡ A.worth x ⊗ B.worth y
+          equal : (A.worth x ⊗ B.worth y) ⊕ ((A.worth x ⊕ rest A x p.i) ⊗ (B.worth y ⊕ rest B y p.j)) ≡ A.worth x ⊗ B.worth y
           equal =
               sym (rest_is x y p.i p.j hx hy p.i_below p.j_below)
               ∙ ap (rest X (x * B.cells + y)) p.is ∙ r.is
 
-          zero_product' : u ⊗ v ≡ 0
-          zero_product' = sym (xor_twice (A.worth x ⊗ B.worth y) (u ⊗ v)) ∙ ap (λ n. (A.worth x ⊗ B.worth y) ⊕ n) equal ∙ xor_self (A.worth x ⊗ B.worth y)
-
-          by_factor : (u ≡ 0) ⊎ (v ≡ 0) → ⊥
-          by_factor (inl e) =
-              (P.smallest x).misses (record { move = p.i; numbered = p.i_below; is = sym (xor_equal (A.worth x) (rest A x p.i) e) })
-          by_factor (inr e) =
-              (Q.smallest y).misses (record { move = p.j; numbered = p.j_below; is = sym (xor_equal (B.worth y) (rest B y p.j) e) })
+          by_factor : (A.worth x ≡ rest A x p.i) ⊎ (B.worth y ≡ rest B y p.j) → ⊥
+          by_factor (inl e) = (P.smallest x).misses (record { move = p.i; numbered = p.i_below; is = sym e })
+          by_factor (inr e) = (Q.smallest y).misses (record { move = p.j; numbered = p.j_below; is = sym e })
 
   -- moves of the parts that leave a' and b' make a move of the product
   joined : (x y w a' b' : ℕ) → x < A.cells → y < B.cells → w ≡ (a' ⊗ B.worth y) ⊕ (A.worth x ⊗ b') ⊕ (a' ⊗ b')
