@@ -3,11 +3,11 @@
 
 ghost use Rattle.std.specs.Prelude.{◌≡◌, ℕ, IfOk, vec_len, slice_index};
 
-use games::Game;
+use games::{Cells, Game};
 use std::alloc::{AllocError, Global};
 
 // A game and the values of its cells; off the board the value is 0.
-#[derive(Drop)]
+#[derive(Debug, PartialEq, Eq, Drop)]
 pub struct Valued<G: Game> {
     game: G,
     values: Vec<u32>,
@@ -54,6 +54,10 @@ impl<G: Game> Game for Valued<G> {
 
     fn turns(&self, c: u32, i: u32, d: u32) -> bool {
         self.game.turns(c, i, d)
+    }
+
+    fn turned(&self, c: u32, i: u32) -> Cells {
+        self.game.turned(c, i)
     }
 
     fn value(&self, c: u32) -> u32 {
