@@ -23,7 +23,7 @@ use Rattle.tables.specs.declared.calls.Call.TheVariants.{Lay, Begin, Turn, Weigh
 use Rattle.tables.specs.declared.calls.Answer.{Answer}
 use Rattle.tables.specs.declared.calls.Answer.TheVariants.{Advice}
 use Rattle.tables.specs.declared.calls.Refusal.TheVariants.{NoCells}
-use Rattle.tables.proofs.Turned.{any_at}
+use Rattle.games.proofs.Tests.{any_at}
 use Rattle.tables.proofs.RunLaws.{Accepted, accepted, entry, coin_next, untouched, setting_unbegun, playing_begun, side_next}
 
 module _ (G : Rules) (P : Lawful G) (R : Replies G) where

@@ -1,5 +1,4 @@
-pub mod Bits
-pub mod Turned
 pub mod RunLaws
 pub mod AdviceLaws
 pub mod Ranges
+pub mod Values

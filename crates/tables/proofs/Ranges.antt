@@ -1,70 +1,109 @@
--- What a search, a test and a fold over the numbers below n give. Assumes nothing.
-use Rattle.std.proofs.Common.{◌≡◌, ℕ, zero, suc, ◌+◌, ◌<◌, ◌≤◌, Bool, true, false, cond, ◌||◌, [], ◌∷◌, ◌++◌, get_or, length, map, Some, None, Option, sym, refl, ap, ◌∙◌, arith}
+-- What a search and a test of cells give, word by word. Assumes nothing.
+use Rattle.std.proofs.Common.{◌≡◌, ℕ, zero, suc, ◌+◌, ◌-◌, ◌*◌, ◌/◌, ◌%◌, ◌<◌, ◌≤◌, Bool, true, false, ◌&&◌, ◌||◌, length, Some, None, Option, sym, refl, ap, ◌∙◌, subst, arith, le-ltb}
+use native.Mathlib.Decide.{dec_lt}
+use borrow.Author.Tests.{both_ways}
 use Rattle.std.specs.Bool.{MatchBool}
 use Rattle.std.specs.Option.{MatchOption}
-use Rattle.std.specs.List.{AllWithin, HoldsAt, fold, filter, range_with_len}
-use Rattle.std.proofs.lemmas.List.{map-append, map-id}
-use Rattle.std.proofs.lemmas.List.Elements.{filter-append}
-use Rattle.std.proofs.lemmas.List.FromFn.{get_or-range_with_len, length-range_with_len, map-range_with_len_more}
-use Rattle.std.proofs.lemmas.List.Sums.{fold-append}
-use Rattle.std.specs.Int.Bits.{xor_zero_r}
+use Rattle.std.specs.List.{AllWithin, HoldsAt, range_with_len}
+use Rattle.std.proofs.lemmas.List.FromFn.{get_or-range_with_len, length-range_with_len}
 use Rattle.nimber_field.specs.Nimber.{◌⊕◌}
+use Rattle.games.specs.Rules.{Rules, Lawful}
 use Rattle.games.specs.Laws.RowLaws.{first_is}
-use Rattle.games.specs.Rules.{nim_sum, sum_held}
 use Rattle.games.specs.TakeValues.{any}
-use Rattle.tables.specs.Calls.{LowestOf}
-use Rattle.tables.proofs.Turned.{any_at}
+use Rattle.games.proofs.Tests.{any_at, any_off, any_words, none_passes}
+use Rattle.play.specs.Play.{Coins}
+use Rattle.tables.specs.Calls.{falls, LowestOf}
 
--- the number that a search finds is the first that passes
-pub first_found : (n m : ℕ) (p : ℕ → Bool) (r : Option ℕ) → m ≡ n
-    → MatchOption r ((k : ℕ) → 0 ≤ k → k < m → p k ≡ false) (λ i. (0 ≤ i) × (i < m) × (p i ≡ true) × ((k : ℕ) → 0 ≤ k → k < i → p k ≡ false))
-    → LowestOf n p r
-first_found n m p None e h = λ k l. h k (omega arith) (omega arith)
-first_found n m p (Some i) e h = sym (first_is n p i (omega (arith, h.1)) h.2 (λ k l. h.3 k (omega arith) l))
+-- a test of the n numbers from a on tells whether any passes
+pub any_passed : (a n : ℕ) (p q : ℕ → Bool) (r : Bool) → ((j : ℕ) → p (a + j) ≡ q j)
+    → MatchBool r ((k : ℕ) × (k < length (range_with_len a n)) × HoldsAt (λ x. p x ≡ true) (range_with_len a n) k)
+    (AllWithin (λ x. p x ≡ false) (range_with_len a n) 0 (length (range_with_len a n)))
+    → r ≡ any n q
+any_passed a n p q true e h =
+    let l : h.0 < n = omega (arith, h.1, length-range_with_len a n) in
+    sym (any_at n q h.0 l (sym (e h.0) ∙ ap p (sym (get_or-range_with_len a n h.0 0 l)) ∙ h.2 0))
+any_passed a n p q false e h =
+    sym (none_passes n q (λ k l.
+    sym (e k) ∙ ap p (sym (get_or-range_with_len a n k 0 l)) ∙ h k 0 (omega arith) (omega (arith, l, length-range_with_len a n))))
 
-none_passes : (n : ℕ) (p : ℕ → Bool) → ((k : ℕ) → k < n → p k ≡ false) → any n p ≡ false
+-- of two, the second fails
+pub not_both : (b c : Bool) → c ≡ false → (b && c) ≡ false
+not_both true c e = e
+not_both false c e = refl
+
+both_false : (b c : Bool) → (b || c) ≡ false → (b ≡ false) × (c ≡ false)
+both_false false c e = (refl, e)
+both_false true c e = absurd (both_ways true e refl)
+
+-- where no number passes one test, none passes that and another
+pub none_both : (n : ℕ) (p q : ℕ → Bool) → any n p ≡ false → any n (λ j. p j && q j) ≡ false
 unfolding any
-none_passes zero p h = refl
-none_passes (suc n) p h = λ i. h n (omega arith) i || none_passes n p (λ k l. h k (omega arith)) i
+none_both zero p q e = refl
+none_both (suc n) p q e =
+    let b = both_false (p n) (any n p) e in
+    λ i. (b.0 i && q n) || none_both n p q b.1 i
 
-at : (m k : ℕ) → k < m → k ≡ get_or (range_with_len 0 m) k 0
-at m k l = omega (arith, get_or-range_with_len 0 m k 0 l)
-
--- a test of each number below n tells whether any passes
-pub any_passed : (n m : ℕ) (p : ℕ → Bool) (r : Bool) → m ≡ n
-    → MatchBool r ((k : ℕ) × (k < length (range_with_len 0 m)) × HoldsAt (λ x. p x ≡ true) (range_with_len 0 m) k)
-    (AllWithin (λ x. p x ≡ false) (range_with_len 0 m) 0 (length (range_with_len 0 m)))
-    → r ≡ any n p
-any_passed n m p true e h =
-    let l : h.0 < m = omega (arith, h.1, length-range_with_len 0 m) in
-    sym (any_at n p h.0 (omega arith) (ap p (at m h.0 l) ∙ h.2 0))
-any_passed n m p false e h =
-    sym (none_passes n p (λ k l.
-    let b : k < m = omega arith in
-    ap p (at m k b) ∙ h k 0 (omega arith) (omega (arith, length-range_with_len 0 m))))
-
-range_more : (n : ℕ) → range_with_len 0 (n + 1) ≡ range_with_len 0 n ++ (n ∷ [])
-range_more n =
-    sym (map-id (range_with_len 0 (n + 1))) ∙ map-range_with_len_more (λ x. x) 0 n n (omega arith) ∙ ap (λ l. l ++ (n ∷ [])) (map-id (range_with_len 0 n))
-
-add_one : (s : ℕ → Bool) (f : ℕ → ℕ) (a k : ℕ) → fold (λ a x. a ⊕ x) a (map f (filter s (k ∷ []))) ≡ a ⊕ cond (s k) (f k) 0
-add_one s f a k = at (s k)
+-- a cell that none passes
+none_at : (n : ℕ) (p : ℕ → Bool) → any n p ≡ false → (k : ℕ) → k < n → p k ≡ false
+none_at n p e k l = at (p k) refl
   where
-    at : (b : Bool) → fold (λ a x. a ⊕ x) a (map f (cond b (k ∷ []) [])) ≡ a ⊕ cond b (f k) 0
-    at true = refl
-    at false = sym (xor_zero_r a)
+    at : (b : Bool) → p k ≡ b → b ≡ false
+    at false q = refl
+    at true q = absurd (both_ways (any n p) e (any_at n p k l q))
 
-all_added : (s : ℕ → Bool) (f : ℕ → ℕ) (n : ℕ) → fold (λ a x. a ⊕ x) 0 (map f (filter s (range_with_len 0 n))) ≡ sum_held n s f
-unfolding nim_sum
-all_added s f zero = refl
-all_added s f (suc n) =
-    let last : suc n ≡ n + 1 = omega arith in
-    ap (λ k. fold (λ a x. a ⊕ x) 0 (map f (filter s (range_with_len 0 k)))) last
-    ∙ ap (λ l. fold (λ a x. a ⊕ x) 0 (map f l)) (ap (filter s) (range_more n) ∙ filter-append s (range_with_len 0 n) (n ∷ []))
-    ∙ ap (fold (λ a x. a ⊕ x) 0) (map-append f (filter s (range_with_len 0 n)) (filter s (n ∷ [])))
-    ∙ fold-append (λ a x. a ⊕ x) 0 (map f (filter s (range_with_len 0 n))) (map f (filter s (n ∷ [])))
-    ∙ add_one s f _ n ∙ ap (λ a. a ⊕ cond (s n) (f n) 0) (all_added s f n)
+-- no value falls past the last cell: there it is 0
+pub off_board : (G : Rules) → Lawful G → (u : Coins) (v d : ℕ) → G.cells ≤ d → falls G u v d ≡ false
+off_board G P u v d l = not_both (u d) _ (le-ltb (G.worth d ⊕ v) (G.worth d) (omega (arith, P.worth_off d l)))
 
--- the terms of the held numbers, added one by one
-pub held_added : (n m : ℕ) (s : ℕ → Bool) (f : ℕ → ℕ) → m ≡ n → fold (λ a x. a ⊕ x) 0 (map f (filter s (range_with_len 0 m))) ≡ sum_held n s f
-held_added n m s f e = ap (λ k. fold (λ a x. a ⊕ x) 0 (map f (filter s (range_with_len 0 k)))) e ∙ all_added s f n
+module _ (n : ℕ) (p : ℕ → Bool) (off : (d : ℕ) → n ≤ d → p d ≡ false) where
+  -- whether a cell of word k passes
+  abbrev word : ℕ → Bool
+  word k = any 32 (λ j. p (32 * k + j))
+
+  -- a test of all words is a test of the n cells
+  pub words_tested : n ≤ 4096 → any 128 word ≡ any n p
+  words_tested small =
+      let rest : 32 * 128 ≡ n + (4096 - n) = omega arith in
+      any_words 128 p ∙ ap (λ m. any m p) rest ∙ any_off n (4096 - n) p off
+
+  none_in : (d : ℕ) → word (d / 32) ≡ false → p d ≡ false
+  none_in d e =
+      let place : d ≡ 32 * (d / 32) + d % 32 = omega arith in
+      ap p place ∙ none_at 32 (λ j. p (32 * (d / 32) + j)) e (d % 32) (omega arith)
+
+  -- what a search of the words gives
+  abbrev pub FirstWord : Option ℕ → Type 0
+  FirstWord r =
+      MatchOption r ((k : ℕ) → 0 ≤ k → k < 128 → word k ≡ false)
+      (λ i. (0 ≤ i) × (i < 128) × (word i ≡ true) × ((k : ℕ) → 0 ≤ k → k < i → word k ≡ false))
+
+  pub word_below : (r : Option ℕ) (k : ℕ) → r ≡ Some k → FirstWord r → k < 128
+  word_below r k e h = (subst FirstWord e h).1
+
+  -- no word, no cell
+  pub none_found : (r : Option ℕ) → r ≡ None → FirstWord r → n ≤ 4096 → LowestOf n p None
+  none_found r e h small =
+      let f : FirstWord None = subst FirstWord e h in
+      λ d l. none_in d (f (d / 32) (omega arith) (omega arith))
+
+  -- the first cell of the first word is the first
+  pub first_found : (r : Option ℕ) (k : ℕ) → r ≡ Some k → FirstWord r → (c : Option ℕ)
+      → MatchOption c ((d : ℕ) → 32 * k ≤ d → d < 32 * k + 32 → p d ≡ false)
+      (λ c. (32 * k ≤ c) × (c < 32 * k + 32) × (p c ≡ true) × ((d : ℕ) → 32 * k ≤ d → d < c → p d ≡ false))
+      → LowestOf n p c
+  first_found r k e h = by_cell (subst FirstWord e h)
+    where
+      by_cell : FirstWord (Some k) → (c : Option ℕ)
+          → MatchOption c ((d : ℕ) → 32 * k ≤ d → d < 32 * k + 32 → p d ≡ false)
+          (λ c. (32 * k ≤ c) × (c < 32 * k + 32) × (p c ≡ true) × ((d : ℕ) → 32 * k ≤ d → d < c → p d ≡ false))
+          → LowestOf n p c
+      by_cell f None h = absurd (both_ways (word k) (none_passes 32 _ (λ j l. h (32 * k + j) (omega arith) (omega arith))) f.2)
+      by_cell f (Some c) h = sym (first_is n p c (on_board (dec_lt c n)) h.2 (λ d l. earlier d l (dec_lt d (32 * k))))
+        where
+          on_board : Dec (c < n) → c < n
+          on_board (yes l) = l
+          on_board (no l) = absurd (both_ways (p c) (off c (omega arith)) h.2)
+
+          earlier : (d : ℕ) → d < c → Dec (d < 32 * k) → p d ≡ false
+          earlier d l (yes m) = none_in d (f.3 (d / 32) (omega arith) (omega arith))
+          earlier d l (no m) = h.3 d (omega arith) l

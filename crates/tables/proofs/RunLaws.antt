@@ -3,6 +3,7 @@ use Rattle.std.proofs.Common.{◌≡◌, ℕ, ◌+◌, ◌<◌, Bool, true, fals
 use mathlib.Core.Path.{fun_ext}
 use Rattle.std.proofs.lemmas.List.{take_more}
 use Rattle.nimber_field.specs.Tower.{differ}
+use Rattle.nimber_field.proofs.Sums.{differ_false}
 use Rattle.games.specs.Rules.{Rules}
 use Rattle.play.specs.Play.{Coins, turned, after, position_value, Legal}
 use Rattle.tables.specs.Coins.{coins}
@@ -34,7 +35,6 @@ use Rattle.tables.specs.declared.calls.Answer.{Answer}
 use Rattle.tables.specs.declared.calls.Answer.TheVariants.{Laid, Begun, Turned, Worth, Advice}
 use Rattle.tables.specs.declared.calls.Refusal.{Refusal}
 use Rattle.tables.specs.declared.table.Record.{Record}
-use Rattle.tables.proofs.Turned.{differ_false}
 
 refused : {e : Refusal} {a : Answer} → ◌≡◌ {A = Reply} (Err e) (Ok a) → ⊥
 refused p = let z : ◌≡◌ {A = ℕ} 0 1 = cc in omega arith

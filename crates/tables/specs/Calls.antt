@@ -35,6 +35,7 @@ abbrev pub side_number : Side → ℕ
 side_number First = 1
 side_number Second = 2
 
+-- the side that waits while a side is to move
 abbrev pub other_side : Side → Side
 other_side First = Second
 other_side Second = First
@@ -68,6 +69,7 @@ LowestOf n p (Some c) = c ≡ first n p
 abbrev pub advised_cell : Rules → Coins → ℕ
 advised_cell G u = first G.cells (falls G u (position_value G u))
 
+-- the move of that number at a cell
 abbrev pub move_at : ℕ → ℕ → Move
 move_at c i = record { cell = c; number = i }
 
@@ -133,11 +135,12 @@ touched G (Weigh m) d = false
 touched G Value d = false
 touched G Advise d = false
 
--- the coins, the state and the side after a call with this reply
+-- the coins after a call with this reply
 abbrev pub coins_after : Rules → Coins → Call → Reply → Coins
 coins_after G u call (Ok a) = turned u (touched G call)
 coins_after G u call (Err e) = u
 
+-- the state after a call with this reply
 abbrev pub state_after : State → Reply → State
 state_after s (Ok Laid) = s
 state_after s (Ok (Begun t)) = t
@@ -146,6 +149,7 @@ state_after s (Ok (Worth v)) = s
 state_after s (Ok (Advice a)) = s
 state_after s (Err e) = s
 
+-- the side to move after a call with this reply
 abbrev pub side_after : Side → Reply → Side
 side_after s (Ok Laid) = s
 side_after s (Ok (Begun t)) = s
@@ -177,7 +181,7 @@ pub record Follows (G : Rules) (call : Call) (r : Reply) (before after : Record)
   pub same : changes call r ≡ false → after ≡ before
 
 -- a call that the state allows was done: the game stays, the reply is the right one, and what is kept follows from it
-pub record DoesAllowed {X : Type 0} (rules : X → Rules) (call : Call) (r : Reply) (before now : Table X) : Type 0 where
+pub record DoesAllowed {X : Type 0} (rules : X → Rules) (call : Call) (r : Reply) {g : _} (before now : Table X g) : Type 0 where
   pub game : now.game ≡ before.game
   pub answer : r ≡ allowed_reply (rules before.game) (coins before.kept.position) call
   pub after : Follows (rules before.game) call r before.kept now.kept

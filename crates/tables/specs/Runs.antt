@@ -50,6 +50,7 @@ some_entry p (e ∷ h) = p e || some_entry p h
 abbrev pub turned_coin : Rules → ℕ → Entry → Bool
 turned_coin G c e = is_ok e.reply && touched G e.call c
 
+-- the call ends the setting
 abbrev pub is_begin : Call → Bool
 is_begin (Lay c) = false
 is_begin Begin = true
@@ -58,6 +59,7 @@ is_begin (Weigh m) = false
 is_begin Value = false
 is_begin Advise = false
 
+-- the call makes a move
 abbrev pub is_turn : Call → Bool
 is_turn (Lay c) = false
 is_turn Begin = false
@@ -66,9 +68,11 @@ is_turn (Weigh m) = false
 is_turn Value = false
 is_turn Advise = false
 
+-- an accepted begin
 abbrev pub begins : Entry → Bool
 begins e = is_ok e.reply && is_begin e.call
 
+-- an accepted turn, which passes the move to the other side
 abbrev pub passes : Entry → Bool
 passes e = is_ok e.reply && is_turn e.call
 
@@ -95,7 +99,7 @@ abbrev pub Carries : Rules → Call → Reply → Record → Record → Type 0
 Carries G call r before after = (h : Run) → Stands G h before → Stands G (record { call = call; reply = r } ∷ h) after
 
 -- a call was done on a table: the game stays, the reply is the right one, what is kept follows from it, and the laws of runs are carried on
-pub record Does {X : Type 0} (rules : X → Rules) (call : Call) (r : Reply) (before now : Table X) : Type 0 where
+pub record Does {X : Type 0} (rules : X → Rules) (call : Call) (r : Reply) {g : _} (before now : Table X g) : Type 0 where
   pub game : now.game ≡ before.game
   pub answer : r ≡ reply_to (rules before.game) (coins before.kept.position) before.kept.state call
   pub after : Follows (rules before.game) call r before.kept now.kept

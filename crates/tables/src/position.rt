@@ -1,18 +1,20 @@
 // A position: 4,096 coins, each heads or tails.
-ghost use Rattle.std.specs.Prelude.{◌≡◌};
+ghost use Rattle.std.specs.Prelude.{◌≡◌, ◌+◌, ◌*◌, ◌<◌, ◌&&◌, nat_lt};
+ghost use Rattle.games.specs.Cells.{held, only};
+ghost use Rattle.games.specs.TakeValues.{any};
 ghost use Rattle.play.specs.Play.{after, position_value, turned};
 ghost use Rattle.tables.specs.Calls.{can_move};
-ghost use Rattle.tables.specs.Coins.{all_tails, coins, only};
+ghost use Rattle.tables.specs.Coins.{all_tails, coins};
 
 pub mod trial;
 
 use crate::calls::Move;
-use games::Game;
+use games::{Cells, Game};
 
-// Coin c is bit c % 32 of word c / 32, and 1 is heads. Bits and no list: a table has no heap, and a trial copies all coins.
-#[derive(Clone, Copy)]
+// A coin shows heads where its cell is held.
+#[derive(Clone, Copy, Debug, Default, PartialEq, Eq)]
 pub struct Position {
-    words: [u32; 128],
+    cells: Cells,
 }
 
 impl Position {
@@ -20,51 +22,65 @@ impl Position {
     pub fn new() -> Position
         ensures { coins result ≡ all_tails }
     {
-        Position { words: [0; 128] }
+        Position {
+            cells: Cells::new(),
+        }
     }
 
     // Whether the coin on c shows heads.
     pub fn heads(&self, c: u32) -> bool
         ensures { result ≡ coins self.now c }
     {
-        c < 4096 && (self.words[(c / 32) as usize] >> (c % 32)) & 1 == 1
+        self.cells.has(c)
+    }
+
+    // Whether a coin of word k shows heads: the 32 coins from 32 * k on.
+    pub fn heads_in(&self, k: u32) -> bool
+        ensures { result ≡ any 32 (λ j. coins self.now (32 * k + j)) }
+    {
+        self.cells.marks_in(k)
     }
 
     // Turns the coin on c; past the last coin there is none.
     pub fn flip(&mut self, c: u32)
         ensures { coins self.new ≡ turned (coins self.old) (only c) }
     {
-        if c < 4096 {
-            self.words[(c / 32) as usize] ^= 1 << (c % 32);
-        }
+        self.cells.toggle(c);
+    }
+
+    // Turns the coins on the cells of a set.
+    pub fn toggle(&mut self, cells: &Cells)
+        ensures { coins self.new ≡ turned (coins self.old) (held cells.now) }
+    {
+        self.cells.toggle_all(cells);
     }
 
     // The nim sum of the values of the heads.
     pub fn sum<G: Game>(&self, game: &G) -> u32
         ensures { result ≡ position_value (G.Game.rules game.now) (coins self.now) }
     {
-        (0..game.size())
-            .filter(|c| self.heads(*c))
-            .map(|c| game.value(c))
-            .fold(0, |sum, value| sum ^ value)
+        self.cells.sum(game)
     }
 
     // Turns the coins of a move.
     pub fn turn<G: Game>(&mut self, game: &G, m: Move)
         ensures { coins self.new ≡ after (G.Game.rules game.now) (coins self.old) m.cell m.number }
     {
-        let end = m.cell.saturating_add(1).min(game.size());
-        for d in 0..end {
-            if game.turns(m.cell, m.number, d) {
-                self.flip(d);
-            }
-        }
+        self.toggle(&game.turned(m.cell, m.number));
     }
 
     // Whether some head has a move.
     pub fn can_move<G: Game>(&self, game: &G) -> bool
         ensures { result ≡ can_move (G.Game.rules game.now) (coins self.now) }
     {
-        (0..game.size()).any(|c| self.heads(c) && game.count(c) > 0)
+        (0..128).any(|k| self.can_move_in(game, k))
+    }
+
+    // Whether some head of word k has a move.
+    fn can_move_in<G: Game>(&self, game: &G, k: u32) -> bool
+        requires { k < 128 }
+        ensures { result ≡ any 32 (λ j. coins self.now (32 * k + j) && nat_lt 0 ((G.Game.rules game.now).count (32 * k + j))) }
+    {
+        self.heads_in(k) && (32 * k..32 * k + 32).any(|c| self.heads(c) && game.count(c) > 0)
     }
 }

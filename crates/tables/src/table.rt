@@ -1,35 +1,61 @@
 // A table: a game and what is kept of its play.
-ghost use Rattle.std.specs.Prelude.{◌≡◌, []};
-ghost use Rattle.std.specs.Result.{result_err};
+ghost use Rattle.std.specs.Prelude.{◌≡◌};
 ghost use Rattle.play.specs.Play.{position_value};
-ghost use Rattle.tables.specs.Calls.{allowed_reply, falls, in_state, play_state, reply_to, DoesAllowed, Follows, LowestOf};
-ghost use Rattle.tables.specs.Calls.{advice as advice_of, move_fault as fault_of};
-ghost use Rattle.tables.specs.Coins.{all_tails, coins};
-ghost use Rattle.tables.specs.Runs.{Does, Stands};
-ghost use Rattle.tables.specs.declared.calls.Call.TheVariants.{Advise, Begin, Lay, Turn, Value, Weigh};
-ghost use Rattle.tables.specs.declared.calls.Side.TheVariants.{First};
-ghost use Rattle.tables.specs.declared.calls.State.TheVariants.{Setting};
+ghost use Rattle.tables.specs.Coins.{coins};
 
 use crate::calls::{Answer, Call, Move, Refusal, Side, State};
 use crate::position::Position;
 use crate::position::trial::Trial;
 use games::Game;
+use std::alloc::AllocError;
 
 // The coins, the state and the side to move.
-#[derive(Clone, Copy)]
+#[derive(Clone, Copy, Debug, PartialEq, Eq)]
 pub struct Record {
     position: Position,
     state: State,
     side: Side,
 }
 
-#[derive(Clone, Copy, Drop)]
-pub struct Table<G> {
+#[derive(Copy, Debug, PartialEq, Eq, Drop)]
+pub struct Table<G: Game> {
     game: G,
     kept: Record,
+    // The value of the position, kept and not found anew at each call.
+    value: u32,
+    ghost valued: { value ≡ position_value (G.Game.rules game) (coins kept.position) },
+}
+
+// By hand: the clone of a game may have other values, so that a derived clone would not show `valued`.
+impl<G: Game + Clone> Clone for Table<G> {
+    ghost is_clone = { λ t r. G.is_clone t.game r.game × (r.kept ≡ t.kept) };
+
+    ghost is_infallible = { λ t. G.is_infallible t.game };
+
+    fn clone(&self) -> Result<Self, AllocError> {
+        let game = self.game.clone()?;
+        let value = self.kept.position.sum(&game);
+        Ok(Table {
+            game,
+            kept: self.kept,
+            value,
+        })
+    }
 }
 
 impl<G: Game> Table<G> {
+    // Here and not above: these definitions name the table, whose own field cites what stands above.
+    ghost use Rattle.games.specs.TakeValues.{any};
+    ghost use Rattle.std.specs.Prelude.{[], ◌+◌, ◌*◌, ◌<◌};
+    ghost use Rattle.std.specs.Result.{result_err};
+    ghost use Rattle.tables.specs.Calls.{allowed_reply, falls, in_state, play_state, reply_to, DoesAllowed, Follows, LowestOf};
+    ghost use Rattle.tables.specs.Calls.{advice as advice_of, move_fault as fault_of};
+    ghost use Rattle.tables.specs.Coins.{all_tails};
+    ghost use Rattle.tables.specs.Runs.{Does, Stands};
+    ghost use Rattle.tables.specs.declared.calls.Call.TheVariants.{Advise, Begin, Lay, Turn, Value, Weigh};
+    ghost use Rattle.tables.specs.declared.calls.Side.TheVariants.{First};
+    ghost use Rattle.tables.specs.declared.calls.State.TheVariants.{Setting};
+
     // A new table is setting, all coins show tails, and the first side is to move.
     pub fn new(game: G) -> Table<G>
         ensures game { result.game ≡ game }
@@ -45,6 +71,7 @@ impl<G: Game> Table<G> {
                 state: State::Setting,
                 side: Side::First,
             },
+            value: 0,
         }
     }
 
@@ -78,7 +105,7 @@ impl<G: Game> Table<G> {
     pub fn sum(&self) -> u32
         ensures { result ≡ position_value (G.Game.rules self.now.game) (coins self.now.kept.position) }
     {
-        self.kept.position.sum(&self.game)
+        self.value
     }
 
     // Any of the calls.
@@ -108,7 +135,8 @@ impl<G: Game> Table<G> {
         }
     }
 
-    // Each call by its name; the replies have one type, as those of a run have.
+    // Each call by its name, as a player makes it, beside `call` for those of a list or a file. The replies have one type, as those of a run have.
+
     // Puts heads on c, while the table is setting.
     pub fn lay(&mut self, c: u32) -> Result<Answer, Refusal>
         ensures { Does G.Game.rules (Lay c) result self.old self.new }
@@ -162,6 +190,7 @@ impl<G: Game> Table<G> {
             return Err(Refusal::Heads);
         }
         self.kept.position.flip(c);
+        self.value ^= self.game.value(c);
         Ok(Answer::Laid)
     }
 
@@ -170,7 +199,9 @@ impl<G: Game> Table<G> {
         ensures { DoesAllowed G.Game.rules (Turn m) result self.old self.new }
     {
         self.check_move(m)?;
-        self.kept.position.turn(&self.game, m);
+        let turned = self.game.turned(m.cell, m.number);
+        self.kept.position.toggle(&turned);
+        self.value ^= turned.sum(&self.game);
         self.kept.side = self.kept.side.other();
         Ok(Answer::Turned(self.settle()))
     }
@@ -233,9 +264,26 @@ impl<G: Game> Table<G> {
     fn lowest_head(&self, v: u32) -> Option<u32>
         ensures { LowestOf (G.Game.rules self.now.game).cells (falls (G.Game.rules self.now.game) (coins self.now.kept.position) v) result }
     {
-        (0..self.game.size()).find(|&c| {
-            let value = self.game.value(c);
-            self.heads(c) && value ^ v < value
-        })
+        let k = (0..128).find(|k| self.falls_in(*k, v))?;
+        (32 * k..32 * k + 32).find(|c| self.falls(*c, v))
+    }
+
+    // Whether the value of some head of word k falls when v is added.
+    fn falls_in(&self, k: u32, v: u32) -> bool
+        requires { k < 128 }
+        ensures { result ≡ any 32 (λ j. falls (G.Game.rules self.now.game) (coins self.now.kept.position) v (32 * k + j)) }
+    {
+        self.kept.position.heads_in(k) && (32 * k..32 * k + 32).any(|c| self.falls(c, v))
+    }
+
+    // Whether c shows heads and its value falls when v is added.
+    fn falls(&self, c: u32, v: u32) -> bool
+        ensures { result ≡ falls (G.Game.rules self.now.game) (coins self.now.kept.position) v c }
+    {
+        if !self.heads(c) {
+            return false;
+        }
+        let value = self.game.value(c);
+        value ^ v < value
     }
 }
