@@ -4,13 +4,17 @@ ghost use Rattle.records.specs.Bytes.{as_framed, byte_fault_number, byte_fault_a
 
 use std::array;
 
-// Where a record stands: its number, from 1, and the place of its first byte, from 0.
+// The most bytes that a file may have.
+pub const MOST_BYTES: usize = 65_535;
+
+// Where a record stands: its number, from 1, and the place of its first byte, from 0. Apart from the file, since faults keep it.
 #[derive(Clone, Copy, Debug, PartialEq, Eq)]
 pub struct At {
     pub number: usize,
     pub place: usize,
 }
 
+// Each holds where, as the faults above do: a kind of fault beside a place would take two types for each.
 #[derive(Clone, Copy, Debug, PartialEq, Eq)]
 pub enum ByteFault {
     // Fewer bytes are left than the record has.
@@ -51,7 +55,7 @@ pub struct Frame<'a> {
 pub fn check_size(file: &[u8], at: At) -> Result<(), ByteFault>
     ensures { result ≡ size_check file.now at }
 {
-    if file.len() > 65_535 {
+    if file.len() > MOST_BYTES {
         Err(ByteFault::TooLong(at))
     } else {
         Ok(())
@@ -78,6 +82,7 @@ fn frame_in(file: &[u8], place: usize) -> Option<Frame<'_>>
 }
 
 // The number in at most four bytes, the low one first; those that are missing count as 0.
+// Not by patterns: they would take an arm for each length, and one for the lengths that no caller has.
 pub(crate) fn number(bytes: &[u8]) -> u32
     ensures { result ≡ number_of bytes.now }
 {

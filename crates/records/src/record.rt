@@ -114,7 +114,7 @@ impl Kind {
         self as u32
     }
 
-    // Whether a body of that length fits the kind.
+    // Whether a body of that length fits the kind. Lengths as numbers, one to a kind: each stands here alone.
     pub fn fits(self, len: usize) -> bool
         ensures { result ≡ fits_kind self len }
     {
@@ -159,10 +159,12 @@ pub enum Record<'a> {
 }
 
 impl<'a> Record<'a> {
-    // The record at a place; the text of a remark is not looked at.
+    // The record at a place; the text of a remark is not looked at. That it is `short` stands here and at the readers, and in no type: a remark that others make
+    // may have any length.
     pub fn read(file: &'a [u8], at: At) -> Result<Record<'a>, RecordFault>
         ensures reads { as_item result ≡ record_at file.now at }
         ensures within { IfOk result (λ x. at.place + item_size (item_of x) ≤ length file.now) }
+        ensures short { IfOk result (λ x. item_size (item_of x) ≤ 84) }
     {
         let Frame { kind, body } = frame_at(file, at)?;
         let kind = Kind::try_from(kind).map_err(|_| RecordFault::UnknownKind(at))?;
@@ -175,7 +177,8 @@ impl<'a> Record<'a> {
     // What a body of a fitting length says.
     fn from_body(kind: Kind, body: &'a [u8]) -> Record<'a>
         requires { fits_kind kind (length body.now) ≡ true }
-        ensures { item_of result ≡ item_from kind body.now }
+        ensures item { item_of result ≡ item_from kind body.now }
+        ensures short { item_size (item_of result) ≤ 84 }
     {
         match kind {
             Kind::Head => Record::Head(Head {

@@ -4,7 +4,7 @@ ghost use Rattle.std.specs.Prelude.{◌*◌, ◌≤◌};
 mod reading;
 
 // How far a transcript has been read.
-#[derive(Drop)]
+#[derive(Debug, PartialEq, Eq, Drop)]
 pub struct Body<'a> {
     file: &'a [u8],
     // A place, and not the rest of the file: faults name it.

@@ -9,7 +9,7 @@ use crate::fault::Fault;
 use records::bytes::At;
 use records::record::{Head, Record};
 
-#[derive(Drop)]
+#[derive(Debug, PartialEq, Eq, Drop)]
 pub struct Unread<'a> {
     file: &'a [u8],
 }

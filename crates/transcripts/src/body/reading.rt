@@ -1,5 +1,5 @@
 // What a reader finds, record by record.
-ghost use Rattle.std.specs.Prelude.{◌≡◌, ◌+◌, ◌≤◌, length, IfOk, Some, Ok, Err};
+ghost use Rattle.std.specs.Prelude.{◌≡◌, ◌+◌, ◌≤◌, length, IfOk, IfSome, Some, Ok, Err};
 ghost use Rattle.records.specs.Records.{item_of, item_size, record_at};
 ghost use Rattle.transcripts.specs.Readings.{accepted, as_found, as_looked, at_of, found, reading, reading_after, start, Stuck};
 ghost use Rattle.transcripts.specs.declared.fault.Fault.{Fault};
@@ -37,14 +37,16 @@ impl<'a> Body<'a> {
         ensures found { as_found result ≡ found (reading self.old) }
         ensures after { reading self.new ≡ reading_after (reading self.old) (as_found result) }
         ensures again { (e : Fault) → as_found result ≡ Err e → Stuck (reading self.new) e }
+        ensures short { IfOk result (λ read. IfSome read (λ x. item_size (item_of x) ≤ 84)) }
     {
         self.advance()
     }
 
-    // Reads the record at the reader's place. Apart from `read`, whose clause `again` follows from these two by one lemma.
+    // Reads the record at the reader's place. Apart from `read`, whose clause `again` is then shown once, and not at each return.
     fn advance(&mut self) -> Result<Option<Record<'a>>, Fault>
         ensures found { as_found result ≡ found (reading self.old) }
         ensures after { reading self.new ≡ reading_after (reading self.old) (as_found result) }
+        ensures short { IfOk result (λ read. IfSome read (λ x. item_size (item_of x) ≤ 84)) }
     {
         let at = self.at();
         check_file(self.file, at)?;
@@ -65,6 +67,7 @@ impl<'a> Body<'a> {
     fn look(&self) -> Result<Record<'a>, Fault>
         ensures looks { as_looked result ≡ accepted (reading self.now) (record_at self.now.file.now (at_of (reading self.now))) }
         ensures within { IfOk result (λ x. self.now.place + item_size (item_of x) ≤ length self.now.file.now) }
+        ensures short { IfOk result (λ x. item_size (item_of x) ≤ 84) }
     {
         let at = self.at();
         let record = Record::read(self.file, at)?;
