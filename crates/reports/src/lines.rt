@@ -7,10 +7,13 @@ use itoa::{Buffer, Integer};
 use std::marker::Model;
 use transcripts::fault::Fault;
 
-// A line, or what it begins with. It is not printed by `write!`, whose contract does not say that it succeeds where there is room.
+// The most bytes that a line has, and the fewest that a buffer for lines has.
+const LENGTH: usize = 128;
+
+// A line, or what it begins with. Each method asks for the room that it takes, which no type can say. It is not printed by `write!`, whose contract does not say that it succeeds where there is room.
 #[derive(Drop)]
 pub(crate) struct Line {
-    bytes: ArrayVec<u8, 128>,
+    bytes: ArrayVec<u8, LENGTH>,
 }
 
 impl Model for Line {
@@ -125,5 +128,5 @@ impl From<Fault> for Line {
 pub(crate) fn is_small(buffer: &[u8]) -> bool
     ensures { result ≡ too_small (length buffer.now) }
 {
-    buffer.len() < 128
+    buffer.len() < LENGTH
 }

@@ -6,7 +6,7 @@ use valued::Valued;
 
 mod steps;
 
-#[derive(Drop)]
+#[derive(Debug, PartialEq, Eq, Drop)]
 pub struct Referee<'a> {
     body: Body<'a>,
     table: Table<Valued<Pile>>,

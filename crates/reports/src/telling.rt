@@ -1,10 +1,10 @@
 // What comes of a record at a table.
-ghost use Rattle.std.specs.Prelude.{◌≡◌, Ok};
-ghost use Rattle.records.specs.Records.{call_of, item_of};
+ghost use Rattle.std.specs.Prelude.{◌≡◌, ◌+◌, ◌≤◌, Ok};
+ghost use Rattle.records.specs.Records.{call_of, item_of, item_size};
 ghost use Rattle.std.specs.Option.{option_map};
 ghost use Rattle.tables.specs.Calls.{reply_to};
 ghost use Rattle.tables.specs.Coins.{coins};
-ghost use Rattle.reports.specs.Outcomes.{told_of};
+ghost use Rattle.reports.specs.Outcomes.{text_length, told_of};
 ghost use Rattle.reports.specs.Steps.{CallCarries, CallLeaves, reply_for, tell as told_by};
 
 use crate::outcome::Outcome;
@@ -18,6 +18,7 @@ pub(crate) fn tell<'a, G: Game>(table: &mut Table<G>, record: Record<'a>) -> Out
     ensures game { table.new.game ≡ table.old.game }
     ensures told { told_of result ≡ told_by (G.Game.rules table.old.game) (coins table.new.kept.position) table.new.kept.state (reply_for (G.Game.rules table.old.game) (coins table.old.kept.position) table.old.kept.state (item_of «record».entry)) (item_of «record».entry) }
     ensures leaves { CallLeaves (G.Game.rules table.old.game) table.old.kept table.new.kept (call_of (item_of «record».entry)) }
+    ensures short { text_length (told_of result) + 4 ≤ item_size (item_of «record».entry) }
     ensures run { CallCarries (G.Game.rules table.old.game) table.old.kept table.new.kept (call_of (item_of «record».entry)) }
 {
     let Some(call) = record.call() else {
@@ -35,7 +36,8 @@ fn describe<'a, G: Game>(
     record: Record<'a>,
     answer: Option<Answer>,
 ) -> Outcome<'a>
-    ensures { told_of result ≡ told_by (G.Game.rules table.now.game) (coins table.now.kept.position) table.now.kept.state (option_map Ok answer) (item_of «record».entry) }
+    ensures told { told_of result ≡ told_by (G.Game.rules table.now.game) (coins table.now.kept.position) table.now.kept.state (option_map Ok answer) (item_of «record».entry) }
+    ensures short { text_length (told_of result) + 4 ≤ item_size (item_of «record».entry) }
 {
     match record {
         Record::Head(_) => Outcome::Board(table.game().size()),

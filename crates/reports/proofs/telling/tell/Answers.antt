@@ -14,4 +14,4 @@ returns-in-Ok-clause-told g c =
     let ask = reply_to (g.G.Game.rules before.game) (coins before.kept.position) before.kept.state in
     let reply : option_map ask (call_of item) ≡ Some (Ok c.in-Ok.answer)
     = ap (option_map ask) (sym c.call.ensures ∙ c.in-Some.is) ∙ ap Some (sym c.call-2.ensures.answer ∙ c.in-Ok.is) in
-    c.describe-in-Ok.ensures ∙ λ i. tell (g.G.Game.rules (c.call-2.ensures.game i)) (coins after.kept.position) after.kept.state (sym reply i) item
+    c.describe-in-Ok.ensures.told ∙ λ i. tell (g.G.Game.rules (c.call-2.ensures.game i)) (coins after.kept.position) after.kept.state (sym reply i) item
