@@ -3,7 +3,7 @@ ghost use Rattle.std.specs.Prelude.{◌≡◌};
 ghost use Rattle.tallies.specs.Xorshift.{xorshift};
 
 // Marsaglia's xorshift of 32 bits.
-#[derive(Drop)]
+#[derive(Debug, PartialEq, Eq, Drop)]
 pub struct Generator {
     state: u32,
 }

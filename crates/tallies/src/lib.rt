@@ -5,13 +5,15 @@ ghost use Rattle.std.specs.Prelude.{◌≡◌, ◌+◌, ◌-◌, ◌^◌, min, i
 
 mod generator;
 mod section;
+mod trial;
 
 pub use generator::Generator;
 pub use section::{Section, Tried, print_all};
 use std::fmt;
+pub use trial::Trial;
 
 // How often two values agreed, and how often they did not. The counts stop at `u32::MAX`.
-#[derive(Clone, Copy, Debug, PartialEq, Eq)]
+#[derive(Clone, Copy, Debug, Default, PartialEq, Eq)]
 pub struct Tally {
     agreed: u32,
     differed: u32,
@@ -22,13 +24,10 @@ impl Tally {
         ensures agreed { result.agreed ≡ 0 }
         ensures differed { result.differed ≡ 0 }
     {
-        Tally {
-            agreed: 0,
-            differed: 0,
-        }
+        Tally::default()
     }
 
-    // Counted in a `for`: to collect a tally could fail by want of memory here.
+    // Counted in a `for`: to collect a tally could fail by want of memory here, and a fold would hand it on at each step.
     pub fn count(&mut self, same: bool)
         ensures agreed { self.new.agreed ≡ (if same then min (self.old.agreed + 1) (2 ^ 32 - 1) else self.old.agreed) }
         ensures differed { self.new.differed ≡ (if same then self.old.differed else min (self.old.differed + 1) (2 ^ 32 - 1)) }
