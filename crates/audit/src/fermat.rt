@@ -8,6 +8,7 @@ const POWERS: [u32; 5] = [2, 4, 16, 256, 65536];
 
 pub fn products(triples: &[Triple]) -> Section {
     let mut tally = Tally::new();
+    // A loop: counted as `Tally` says.
     for power in POWERS {
         tally.count(product(power, power) == power | (power / 2));
         for t in triples.iter().filter(|t| t.a < power) {

@@ -1,14 +1,18 @@
 // Compares `nimbers` with the products that the rule gives.
 ghost use Rattle.std.specs.Prelude.{◌≡◌, ℕ, ◌<◌, MatchOption, ◌≢◌, slice_index};
 
-use crate::rule::Row;
+use crate::rule::{NUMBERS, Row};
 use tallies::{Section, Tally};
 
-// The same walk as in the limits of audit_games, which does not use `nimbers`: one function for both would stand in a third crate.
+// The end of the numbers that are tried.
+const END: u32 = NUMBERS as u32;
+
+// The same walk as in the limits of audit_games, over the values of a game: one function for both would take a closure, with a clause on it, for these five lines.
 pub fn products(rows: &[Row]) -> Section {
     let mut tally = Tally::new();
-    for (a, row) in (0..256u32).zip(rows) {
-        for (b, p) in (0..256u32).zip(row) {
+    // A loop: counted as `Tally` says.
+    for (a, row) in (0..END).zip(rows) {
+        for (b, p) in (0..END).zip(row) {
             tally.count(nimbers::product(a, b) == u32::from(*p));
         }
     }
@@ -20,7 +24,8 @@ pub fn products(rows: &[Row]) -> Section {
 
 pub fn inverses(rows: &[Row]) -> Section {
     let mut tally = Tally::new();
-    for (a, row) in (0..256u32).zip(rows) {
+    // A loop: counted as `Tally` says.
+    for (a, row) in (0..END).zip(rows) {
         tally.count(nimbers::inverse(a) == place_of_one(row));
     }
     Section {
@@ -33,5 +38,5 @@ pub fn inverses(rows: &[Row]) -> Section {
 fn place_of_one(row: &Row) -> Option<u32>
     ensures { MatchOption result ((k : ℕ) → k < 256 → slice_index row.now k ≢ 1) (λ b. slice_index row.now b ≡ 1) }
 {
-    (0..256).find(|b| row[*b as usize] == 1)
+    (0..END).find(|b| row[*b as usize] == 1)
 }

@@ -5,14 +5,17 @@ ghost use Rattle.std.specs.Prelude.{◌≡◌, ℕ, ◌<◌, true, false, IfSome
 use anyhow::Context;
 use std::alloc::Global;
 
+// So many numbers are multiplied, from 0 on.
+pub const NUMBERS: usize = 256;
+
 // The products of one number with each number below 256.
-pub type Row = [u8; 256];
+pub type Row = [u8; NUMBERS];
 
 // The rows of the numbers below 256.
 pub fn rows(heap: Global) -> anyhow::Result<Vec<Row>> {
     let mut rows = Vec::new(heap);
     // A loop: each is found from those before it.
-    for _ in 0..256u32 {
+    for _ in 0..NUMBERS {
         let row = next_row(&rows).context("a product of numbers below 256 is not below 256")?;
         rows.push(row)?;
     }
@@ -21,9 +24,9 @@ pub fn rows(heap: Global) -> anyhow::Result<Vec<Row>> {
 
 // The row of a number, after those of all smaller ones.
 fn next_row(earlier: &[Row]) -> Option<Row> {
-    let mut row = [0; 256];
+    let mut row = [0; NUMBERS];
     // A loop: each is found from those before it.
-    for b in 0..=255u8 {
+    for b in 0..=u8::MAX {
         row[b as usize] = next_product(earlier, &row, b)?;
     }
     Some(row)
@@ -31,7 +34,7 @@ fn next_row(earlier: &[Row]) -> Option<Row> {
 
 // The product with `b`, from the earlier rows and from this one's products with smaller numbers.
 fn next_product(earlier: &[Row], row: &Row, b: u8) -> Option<u8> {
-    let mut excluded = [false; 256];
+    let mut excluded = [false; NUMBERS];
     for above in earlier {
         exclude(&mut excluded, above, row, b);
     }
@@ -39,7 +42,7 @@ fn next_product(earlier: &[Row], row: &Row, b: u8) -> Option<u8> {
 }
 
 // Marks (a' ⊗ b) ^ (a ⊗ b') ^ (a' ⊗ b') for each b' < b, where `above` is the row of a'.
-fn exclude(excluded: &mut [bool; 256], above: &Row, row: &Row, b: u8) {
+fn exclude(excluded: &mut [bool; NUMBERS], above: &Row, row: &Row, b: u8) {
     let end = b as usize;
     let above_b = above[end];
     for (p, q) in above[0..end].iter().zip(&row[0..end]) {
@@ -48,7 +51,7 @@ fn exclude(excluded: &mut [bool; 256], above: &Row, row: &Row, b: u8) {
 }
 
 // Flags and no list: a list of some ten thousand numbers would be searched for each smaller one.
-fn smallest_missing(excluded: &[bool; 256]) -> Option<usize>
+fn smallest_missing(excluded: &[bool; NUMBERS]) -> Option<usize>
     ensures below { MatchOption result ((k : ℕ) → k < 256 → slice_index_or excluded.now k false ≡ true) (λ n. (k : ℕ) → k < n → slice_index_or excluded.now k false ≡ true) }
     ensures missing { IfSome result (λ n. slice_index_or excluded.now n false ≡ false) }
 {

@@ -18,7 +18,7 @@ const EDGES: [u32; 11] = [
 
 const GENERATED: u32 = 4096;
 
-#[derive(Clone, Copy)]
+#[derive(Clone, Copy, Debug, PartialEq, Eq)]
 pub struct Triple {
     pub a: u32,
     pub b: u32,
@@ -37,6 +37,7 @@ pub fn triples(heap: Global) -> Result<Vec<Triple>, AllocError> {
         }
     }
     let mut generator = Generator::new(1);
+    // A loop: the generator changes at each number.
     for _ in 0..GENERATED {
         triples.push(next_triple(&mut generator))?;
     }

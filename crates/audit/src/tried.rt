@@ -6,6 +6,7 @@ pub fn tried<T, F: Fn(&T) -> bool>(title: &'static str, items: &[T], holds: F) -
     requires { F.IsAlwaysCallable holds }
 {
     let mut tally = Tally::new();
+    // A loop: counted as `Tally` says.
     for item in items {
         tally.count(holds(item));
     }

@@ -1,28 +1,28 @@
 // Files at the edges of the size that a file may have.
-use crate::comparison::Comparison;
+use crate::comparison::compare;
 use crate::writing::Transcript;
 use std::alloc::{AllocError, Global};
-use tallies::Section;
+use tallies::{Section, Trial};
 
 // The longest remark.
 const TEXT: [u8; 80] = [b'x'; 80];
 
 // Whole files, with one byte more, and cut at their last bytes.
 pub fn files(heap: Global) -> Result<Section, AllocError> {
-    let mut comparison = Comparison::new(heap);
+    let mut trial = Trial::new(heap);
     for size in [65_534, 65_535, 65_536, 65_539] {
         for remark in [None, Some(&TEXT[..1]), Some(&TEXT[..76])] {
             let mut file = filled(heap, size, remark)?;
-            comparison.compare(&file)?;
+            compare(&mut trial, &file)?;
             file.push(0)?;
-            comparison.compare(&file)?;
+            compare(&mut trial, &file)?;
             for _ in 0..5 {
                 let _ = file.pop();
-                comparison.compare(&file)?;
+                compare(&mut trial, &file)?;
             }
         }
     }
-    Ok(comparison.section("files at the edges of size"))
+    Ok(trial.section("files at the edges of size"))
 }
 
 // A whole file of that size, filled with a remark again and again, or with advice where there is none.
@@ -37,7 +37,7 @@ fn filled(heap: Global, size: usize, remark: Option<&[u8]>) -> Result<Vec<u8>, A
             None => file.advise()?,
         }
     }
-    file.remark(&TEXT[..(left % each).min(80)])?;
+    file.remark(&TEXT[..(left % each).min(TEXT.len())])?;
     file.end()?;
     Ok(file.bytes)
 }

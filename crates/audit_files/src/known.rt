@@ -1,8 +1,8 @@
 // Files and their lines, both written out by hand.
-use crate::comparison::Comparison;
+use crate::comparison::expect;
 use crate::writing::{Board, Transcript};
 use std::alloc::{AllocError, Global};
-use tallies::Section;
+use tallies::{Section, Trial};
 
 // A game of Rugs on two by two cells, a record to a line.
 const RUGS: &[u8] = b"\x0A\0\x01\0\x02\0\x02\0\x02\0\0\0\0\0\
@@ -40,6 +40,7 @@ const NO_PILE: &[u8] = b"\x0A\0\x01\0\x07\0\x02\0\x02\0\0\0\0\0";
 const NO_CELLS: &[u8] = b"\x0A\0\x01\0\x02\0\0\0\x02\0\0\0\0\0";
 
 // A file in two parts, and its lines.
+#[derive(Clone, Copy, Debug, PartialEq, Eq)]
 struct Case {
     front: &'static [u8],
     back: &'static [u8],
@@ -138,16 +139,16 @@ pub fn rugs(heap: Global) -> Result<Vec<u8>, AllocError> {
 
 // The builders and the cases.
 pub fn files(heap: Global) -> Result<Section, AllocError> {
-    let mut comparison = Comparison::new(heap);
-    comparison.count_same(&rugs(heap)?, RUGS);
-    comparison.expect(RUGS, RUGS_LINES)?;
+    let mut trial = Trial::new(heap);
+    trial.count(rugs(heap)?.as_slice() == RUGS);
+    expect(&mut trial, RUGS, RUGS_LINES)?;
     for case in &CASES {
         let mut file = Vec::new(heap);
         file.extend_from_slice(case.front)?;
         file.extend_from_slice(case.back)?;
-        comparison.expect(&file, case.lines)?;
+        expect(&mut trial, &file, case.lines)?;
     }
-    comparison.expect(&[0; 65_535], b"1 bad 11 at 0\n")?;
-    comparison.expect(&[0; 65_536], b"1 bad 16 at 0\n")?;
-    Ok(comparison.section("files with lines written by hand"))
+    expect(&mut trial, &[0; 65_535], b"1 bad 11 at 0\n")?;
+    expect(&mut trial, &[0; 65_536], b"1 bad 16 at 0\n")?;
+    Ok(trial.section("files with lines written by hand"))
 }

@@ -1,18 +1,19 @@
 // A plain reading of a transcript: from its bytes to the lines that it should give.
 ghost use Rattle.std.specs.Prelude.{◌<◌, length, IfOk};
 
+use crate::writing::Board;
 use games::Game;
 use piles::Pile;
 use std::alloc::{AllocError, Global};
 use tables::calls::{Answer, Move, Refusal, State};
 use tables::table::Table;
 
-// The most bytes that a file may have.
+// The most bytes that a file may have. Of its own, since this is what is tried.
 const MOST: usize = 65_535;
 
 // What may be wrong with a file, by its number in a line.
 // Of its own: a wrong number of a fault in `transcripts` would otherwise not be found.
-#[derive(Clone, Copy)]
+#[derive(Clone, Copy, Debug, PartialEq, Eq)]
 enum Fault {
     CutShort = 10,
     UnknownKind = 11,
@@ -27,9 +28,9 @@ enum Fault {
 
 // What a record says.
 // Of its own: a record that `records` reads wrongly would otherwise not be found.
-#[derive(Clone, Copy)]
+#[derive(Clone, Copy, Debug, PartialEq, Eq)]
 enum Record<'a> {
-    Head { pile: u16, w: u16, h: u16, set: u32 },
+    Head(Board),
     Lay(u16),
     Begin,
     Turn(Move),
@@ -39,15 +40,15 @@ enum Record<'a> {
 }
 
 impl<'a> Record<'a> {
-    // The record of a kind and a body.
+    // The record of a kind and a body. By numbers, and not the kinds that the writer has: a wrong one there would otherwise not be found. 80 of its own, as they are.
     fn new(kind: u16, body: &'a [u8]) -> Result<Record<'a>, Fault> {
         match (kind, body) {
-            (1, &[p, q, w, v, h, g, a, b, c, d]) => Ok(Record::Head {
-                pile: u16::from_le_bytes([p, q]),
+            (1, &[p, q, w, v, h, g, a, b, c, d]) => Ok(Record::Head(Board {
+                number: u16::from_le_bytes([p, q]),
                 w: u16::from_le_bytes([w, v]),
                 h: u16::from_le_bytes([h, g]),
                 set: u32::from_le_bytes([a, b, c, d]),
-            }),
+            })),
             (2, &[c, d]) => Ok(Record::Lay(u16::from_le_bytes([c, d]))),
             (3, []) => Ok(Record::Begin),
             (4, &[c, d, i, j, k, l]) => Ok(Record::Turn(Move {
@@ -64,7 +65,7 @@ impl<'a> Record<'a> {
 }
 
 // A record, and what follows it.
-#[derive(Clone, Copy)]
+#[derive(Clone, Copy, Debug, PartialEq, Eq)]
 struct Taken<'a> {
     record: Record<'a>,
     rest: &'a [u8],
@@ -89,10 +90,10 @@ fn take_record(bytes: &[u8]) -> Result<Taken<'_>, Fault>
 // Takes the first record, where that is the head: its pile, and what follows it.
 fn take_head(bytes: &[u8]) -> Result<(Pile, &[u8]), Fault> {
     let Taken { record, rest } = take_record(bytes)?;
-    let Record::Head { pile, w, h, set } = record else {
+    let Record::Head(board) = record else {
         return Err(Fault::HeadMisplaced);
     };
-    let pile = Pile::new(u32::from(pile), u32::from(w), u32::from(h), set).ok_or(Fault::NoPile)?;
+    let pile = board.pile().ok_or(Fault::NoPile)?;
     Ok((pile, rest))
 }
 
@@ -102,7 +103,7 @@ fn take_later(bytes: &[u8]) -> Result<Taken<'_>, Fault>
 {
     let taken = take_record(bytes)?;
     match taken.record {
-        Record::Head { .. } => Err(Fault::HeadMisplaced),
+        Record::Head(_) => Err(Fault::HeadMisplaced),
         Record::Remark(text) if !text.iter().all(|byte| matches!(byte, 32..=126)) => {
             Err(Fault::BadText)
         }
@@ -181,7 +182,7 @@ fn follow(
     }
 }
 
-// What the line of a sound record says after its number.
+// What the line of a sound record says after its number. The heap beside the table in these three: a struct of both, for words and its two parts, adds a type and spares one name.
 fn words(heap: Global, table: &mut Table<Pile>, record: Record) -> Result<String, AllocError> {
     match answered(heap, table, record) {
         Ok(words) => words,
@@ -221,7 +222,7 @@ fn answered(
             let text = std::str::from_utf8(text).unwrap_or("");
             format!(in heap; "said {text}")
         }
-        Record::Head { .. } | Record::End => format!(in heap; "end"),
+        Record::Head(_) | Record::End => format!(in heap; "end"),
     })
 }
 

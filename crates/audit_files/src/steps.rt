@@ -3,14 +3,14 @@ use reports::{Referee, write_fault};
 use std::alloc::{AllocError, Global};
 use transcripts::unread::Unread;
 
-// More steps than a file has records: a referee that goes on beyond them is stopped here.
+// More steps than a file has records: a referee that goes on beyond them is stopped here, so that this ends whatever a step gives.
 const STEPS: u32 = 20_000;
 
 // What a buffer holds before a step.
 const MARK: u8 = b'#';
 
 // What a step gives.
-#[derive(Clone, Copy)]
+#[derive(Clone, Copy, Debug, PartialEq, Eq)]
 enum Given<'a> {
     // A line, behind which more may follow.
     Line(&'a [u8]),
@@ -38,7 +38,7 @@ pub fn lines(heap: Global, file: &[u8]) -> Result<Vec<u8>, AllocError> {
     Ok(lines)
 }
 
-// What a step gives in a buffer of marks; none where it leaves something wrong.
+// What a step gives in a buffer of marks; none where it leaves something wrong, for which there is no more to say.
 fn step<'a>(referee: &mut Referee, buffer: &'a mut [u8]) -> Option<Given<'a>> {
     if !refuses_small(referee) {
         return None;
@@ -58,7 +58,7 @@ fn step<'a>(referee: &mut Referee, buffer: &'a mut [u8]) -> Option<Given<'a>> {
     }
 }
 
-// Whether a buffer of 127 bytes is refused with 19, and left as it is.
+// Whether a buffer of 127 bytes is refused with 19, and left as it is. By its number, which is tried too.
 fn refuses_small(referee: &mut Referee) -> bool {
     let mut small = [MARK; 127];
     match referee.step(&mut small) {

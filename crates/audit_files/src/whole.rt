@@ -1,12 +1,13 @@
 // Files of whole games: coins are laid, calls are refused, and the sides play to the end.
-use crate::comparison::Comparison;
+use crate::comparison::compare;
 use crate::writing::{Board, Transcript};
 use games::Game;
+use games::rules::MOST_CELLS;
 use piles::Pile;
 use std::alloc::{AllocError, Global};
 use tables::calls::{Answer, Move};
 use tables::table::Table;
-use tallies::Section;
+use tallies::{Section, Trial};
 
 // Widths of boards; 0 and those above 64 leave a game with no cells. The last is 2 in its lower byte.
 const WIDTHS: [u16; 8] = [0, 1, 2, 3, 4, 64, 65, 258];
@@ -14,31 +15,34 @@ const WIDTHS: [u16; 8] = [0, 1, 2, 3, 4, 64, 65, 258];
 // The amounts 1, 2, 9, 17 and 32: some in each byte.
 const SET: u32 = 0x8001_0103;
 
+// Coins are laid among so many cells, from the first on.
+const FIRST: u16 = 30;
+
 // At most so many turns are made.
 const TURNS: u32 = 30;
 
 // A game on each pile of each size.
 pub fn files(heap: Global) -> Result<Section, AllocError> {
-    let mut comparison = Comparison::new(heap);
+    let mut trial = Trial::new(heap);
+    // By their numbers, as a head names them.
     for pile in 1..7 {
         for w in WIDTHS {
             for h in WIDTHS {
-                comparison.compare(&game(heap, Board::new(pile, w, h, SET))?)?;
+                compare(&mut trial, &game(heap, Board::new(pile, w, h, SET))?)?;
             }
         }
     }
-    Ok(comparison.section("whole files"))
+    Ok(trial.section("whole files"))
 }
 
 // The file of a game on a board.
 pub fn game(heap: Global, board: Board) -> Result<Vec<u8>, AllocError> {
     let mut file = Transcript::new(heap);
     file.head(board)?;
-    let Board { pile, w, h, set } = board;
-    if let Some(pile) = Pile::new(u32::from(pile), u32::from(w), u32::from(h), set) {
+    if let Some(pile) = board.pile() {
         let mut session = Session {
             file: &mut file,
-            size: pile.size().min(4096) as u16,
+            size: u16::try_from(pile.size()).unwrap_or(u16::MAX),
             table: Table::new(pile),
         };
         session.lay_coins()?;
@@ -63,10 +67,10 @@ impl Session<'_> {
     // Lays two of three among the first coins, and the last one of a large board, and begins.
     fn lay_coins(&mut self) -> Result<(), AllocError> {
         self.refusals()?;
-        for cell in (0..self.size.min(30)).filter(|cell| cell % 3 != 1) {
+        for cell in (0..self.size.min(FIRST)).filter(|cell| cell % 3 != 1) {
             self.lay(cell)?;
         }
-        if self.size > 30 {
+        if self.size > FIRST {
             self.lay(self.size - 1)?;
         }
         self.lay(0)?;
@@ -102,7 +106,8 @@ impl Session<'_> {
                 break;
             };
             self.file.advise()?;
-            self.file.turn(m.cell.min(65_535) as u16, m.number)?;
+            let cell = u16::try_from(m.cell).unwrap_or(u16::MAX);
+            self.file.turn(cell, m.number)?;
             let _ = self.table.turn(m);
         }
         self.file.advise()
@@ -113,7 +118,7 @@ impl Session<'_> {
         if let Ok(Answer::Advice(Some(m))) = self.table.advise() {
             return Some(m);
         }
-        (0..4096)
+        (0..MOST_CELLS)
             .map(|cell| Move { cell, number: 0 })
             .find(|m| self.table.weigh(*m).is_ok())
     }

@@ -1,25 +1,32 @@
 // Writes transcripts record by record, sound or not.
+use piles::Pile;
 use std::alloc::{AllocError, Global};
 
 // What a head says.
 // Of its own: a head that `records` reads wrongly would otherwise not be found.
-#[derive(Clone, Copy)]
+#[derive(Clone, Copy, Debug, PartialEq, Eq)]
 pub struct Board {
-    pub pile: u16,
+    pub number: u16,
     pub w: u16,
     pub h: u16,
     pub set: u32,
 }
 
 impl Board {
-    pub fn new(pile: u16, w: u16, h: u16, set: u32) -> Board {
-        Board { pile, w, h, set }
+    pub fn new(number: u16, w: u16, h: u16, set: u32) -> Board {
+        Board { number, w, h, set }
+    }
+
+    // The pile of that number, if there is one.
+    pub fn pile(self) -> Option<Pile> {
+        let Board { number, w, h, set } = self;
+        Pile::new(u32::from(number), u32::from(w), u32::from(h), set)
     }
 }
 
 // The kinds of records, by their numbers.
 // Of its own: a wrong number of a kind in `records` would otherwise not be found.
-#[derive(Clone, Copy)]
+#[derive(Clone, Copy, Debug, PartialEq, Eq)]
 pub enum Kind {
     Head = 1,
     Lay = 2,
@@ -61,12 +68,12 @@ impl Transcript {
 
     // A record of any kind, whose length is that of its body.
     pub fn record(&mut self, kind: u16, body: &[u8]) -> Result<(), AllocError> {
-        self.raw(body.len().min(65_535) as u16, kind, body)
+        self.raw(u16::try_from(body.len()).unwrap_or(u16::MAX), kind, body)
     }
 
     // The record that names the pile.
     pub fn head(&mut self, board: Board) -> Result<(), AllocError> {
-        let [p, q] = board.pile.to_le_bytes();
+        let [p, q] = board.number.to_le_bytes();
         let [w, v] = board.w.to_le_bytes();
         let [h, g] = board.h.to_le_bytes();
         let [a, b, c, d] = board.set.to_le_bytes();

@@ -4,7 +4,8 @@ ghost use Rattle.std.specs.Prelude.{◌&&◌, ◌==◌};
 use std::fmt;
 use tallies::{Tally, Tried};
 
-#[derive(Clone, Copy)]
+// Six names, and no list of sections: in a list each would be a place, and what is counted an index.
+#[derive(Clone, Copy, Debug, Default, PartialEq, Eq)]
 pub struct Findings {
     title: &'static str,
     pub sizes: Tally,
@@ -19,12 +20,7 @@ impl Findings {
     pub fn new(title: &'static str) -> Findings {
         Findings {
             title,
-            sizes: Tally::new(),
-            values: Tally::new(),
-            counts: Tally::new(),
-            moves: Tally::new(),
-            replies: Tally::new(),
-            off_board: Tally::new(),
+            ..Findings::default()
         }
     }
 }

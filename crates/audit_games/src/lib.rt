@@ -28,7 +28,7 @@ pub fn found(heap: Global) -> anyhow::Result<Vec<Findings>> {
     Ok(found.to_vec(heap)?)
 }
 
-// The largest piles; the rows have the nim products of the numbers below 256.
+// The largest piles; the rows have the nim products of the numbers below 256. As a number: the name of a row is of `audit`, which uses this crate.
 pub fn largest(rows: &[[u8; 256]]) -> [Section; 3] {
     [limits::cells(), limits::moves(), limits::corners(rows)]
 }

@@ -30,6 +30,7 @@ pub fn piles(heap: Global) -> anyhow::Result<Findings> {
     Ok(trial.findings)
 }
 
+// By its four numbers, as `Pile::new` takes them: a struct for two calls is no plainer.
 fn try_pile(trial: &mut Trial, number: u32, w: u32, h: u32, set: u32) -> anyhow::Result<()> {
     let pile = Pile::new(number, w, h, set).context("a number from 1 to 6 has no pile")?;
     trial.examine(&pile, cells_of(number, cells(w), cells(h)))

@@ -7,7 +7,8 @@ ghost use Rattle.games.specs.Rules.{sum_held};
 use games::Game;
 use std::alloc::{AllocError, Global};
 
-// The rests of the moves at c by their numbers, from the values of the cells below c.
+// The rests of the moves at c by their numbers, from the values of the cells below c. A struct of the three would be made anew at each cell, and the game and the heap are
+// no pair: what would be made of them is not kept.
 pub fn rests<G: Game>(
     game: &G,
     c: u32,
@@ -70,6 +71,7 @@ pub fn values<G: Game>(game: &G, end: u32, heap: Global) -> Result<Option<Vec<u3
     ensures { IfOk result (λ found. IfSome found (λ v. (vec_len v ≡ end) × ((c : ℕ) → c < end → IsSmallest (G.Game.rules game.now) v.items c (slice_index v.items c)))) }
 {
     let mut values = Vec::new(heap);
+    // A loop: each is found from those before it.
     for c in 0..end {
         let Some(value) = next_value(game, c, &values, heap)? else {
             return Ok(None);

@@ -6,11 +6,12 @@ use crate::findings::Findings;
 use crate::rests::{lowest_move, rests, values};
 use anyhow::Context;
 use games::Game;
+use games::rules::MOST_CELLS;
 use std::alloc::Global;
 use tallies::Tally;
 
 // Which of the moves with the same rest a reply may be.
-#[derive(Clone, Copy)]
+#[derive(Clone, Copy, Debug, PartialEq, Eq)]
 pub enum Choice {
     Lowest,
     Any,
@@ -83,6 +84,7 @@ impl<G: Game> Subject<'_, G> {
 
     // Every move turns its own cell and none above it.
     fn try_moves(&self, c: u32, tally: &mut Tally) {
+        // Loops here and below: counted as `Tally` says.
         for i in 0..self.game.count(c) {
             tally.count(self.game.turns(c, i, c) && !self.turns_above(c, i));
         }
@@ -98,14 +100,19 @@ impl<G: Game> Subject<'_, G> {
     }
 
     fn try_off_board(&self, tally: &mut Tally) {
-        for c in [self.cells, self.cells.saturating_add(1), 4096, u32::MAX] {
+        for c in [
+            self.cells,
+            self.cells.saturating_add(1),
+            MOST_CELLS,
+            u32::MAX,
+        ] {
             tally.count(is_off_board(self.game, c));
         }
     }
 }
 
 // What the replies at a cell have to fit.
-#[derive(Clone, Copy)]
+#[derive(Clone, Copy, Debug, PartialEq, Eq)]
 struct Expected<'a> {
     value: u32,
     rests: &'a [u32],

@@ -1,4 +1,4 @@
-// The games that are tried.
+// The games that are tried. Piles by their numbers: a variant of a product takes three calls where a number takes one.
 use games::{Ruler, Take, Twins};
 use piles::{Mix, Pile, Product};
 

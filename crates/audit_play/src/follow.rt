@@ -1,14 +1,13 @@
 // Games in which side 1 follows advice and side 2 tries every answer, to the end.
 use crate::boards;
-use crate::search::{Search, Turn, begun};
-use crate::trial::Trial;
+use crate::search::{Coins, Search, Turn, begun};
 use games::{Game, Turtles};
 use std::alloc::{AllocError, Global};
 use tables::calls::{Answer, Side, State};
 use tables::table::Table;
-use tallies::Section;
+use tallies::{Section, Trial};
 
-// More steps than any of the boards needs from one position.
+// More steps than any of the boards needs from one position: with an end, so that this stops whatever a table does.
 const STEPS: u32 = 1_000_000;
 
 pub fn followed(heap: Global) -> Result<Section, AllocError> {
@@ -27,7 +26,10 @@ pub fn followed(heap: Global) -> Result<Section, AllocError> {
 // The games from every position that is won.
 fn try_games<G: Game + Copy + Drop>(trial: &mut Trial, game: G) -> Result<(), AllocError> {
     let search = Search::new(trial.heap, &game)?;
-    for heads in (0..search.count()).filter(|heads| search.is_won(*heads)) {
+    for heads in (0..search.count())
+        .map(Coins)
+        .filter(|heads| search.is_won(*heads))
+    {
         let mut table = Table::new(game);
         match begun(&mut table, heads) {
             Ok(Answer::Begun(State::Playing)) => play(trial, &search, table)?,

@@ -1,20 +1,21 @@
 // What a table should show and answer, kept apart from it.
 use audit_games::rests::values;
 use games::Game;
+use games::rules::MOST_CELLS;
 use std::alloc::{AllocError, Global};
 use tables::calls::{Answer, Call, Move, Refusal, Side, State};
 use tables::table::Table;
 
-// What a call should be answered.
-#[derive(Clone, Copy)]
+// What a call should be answered. No `Option`: advice is no missing answer; any is right that `fits` finds so.
+#[derive(Clone, Copy, Debug, PartialEq, Eq)]
 pub enum Expected {
     Exactly(Answer),
-    // A move that leaves the value 0, where the value is not 0.
+    // A move that leaves the value 0, or none where the value is 0.
     Advice,
 }
 
 // A cell: its value, and whether its coin shows heads.
-#[derive(Clone, Copy)]
+#[derive(Clone, Copy, Debug, PartialEq, Eq)]
 struct Cell {
     value: u32,
     heads: bool,
@@ -66,7 +67,7 @@ impl<'a, G: Game> Record<'a, G> {
 
     // The first head from c on, or c where there is none.
     pub fn head_from(&self, c: u32) -> u32 {
-        (0..4096)
+        (0..MOST_CELLS)
             .zip(&self.cells)
             .find(|(d, cell)| *d >= c && cell.heads)
             .map_or(c, |(d, _)| d)
@@ -190,7 +191,7 @@ impl<'a, G: Game> Record<'a, G> {
     }
 }
 
-// The number that a refusal should have.
+// The number that a refusal should have. Of its own: a wrong number in `tables` would otherwise not be found.
 fn number_of(refusal: Refusal) -> u32 {
     match refusal {
         Refusal::NoCells => 1,

@@ -1,13 +1,13 @@
 // Runs of calls on tables, each compared with a record that is kept apart.
 use crate::record::Record;
-use crate::trial::Trial;
 use crate::{boards, random};
 use games::{Game, Turtles};
 use std::alloc::{AllocError, Global};
 use tables::calls::{Answer, Call, Refusal};
 use tables::table::Table;
-use tallies::{Generator, Section};
+use tallies::{Generator, Section, Trial};
 
+// Marsaglia's seed. Of its own, as that of the files: the stored output hangs on it.
 const SEED: u32 = 2_463_534_242;
 
 const RUNS: u32 = 10;
