@@ -24,16 +24,18 @@ extern "C" fn plain_product(a: u32, b: u32) -> u32 {
 #[derive(Clone, Copy)]
 enum Class {
     Below16,
+    Below256,
     Below65536,
     From65536,
 }
 
 impl Class {
-    const ALL: [Class; 3] = [Class::Below16, Class::Below65536, Class::From65536];
+    const ALL: [Class; 4] = [Class::Below16, Class::Below256, Class::Below65536, Class::From65536];
 
     fn title(self) -> &'static str {
         match self {
             Class::Below16 => "two numbers below 16",
+            Class::Below256 => "two numbers below 256",
             Class::Below65536 => "two numbers below 65,536",
             Class::From65536 => "two numbers from 65,536 up",
         }
@@ -55,6 +57,7 @@ impl Generator {
         let x = (self.bits() >> 32) as u32;
         match class {
             Class::Below16 => x % 16,
+            Class::Below256 => x % 256,
             Class::Below65536 => x % 65_536,
             Class::From65536 => x.max(65_536),
         }
@@ -64,8 +67,8 @@ impl Generator {
 /// Compares the two on pairs of each class with each.
 fn compare(generator: &mut Generator) -> Result<(), String> {
     for i in 0..COMPARED {
-        let a = generator.number(Class::ALL[i % 3]);
-        let b = generator.number(Class::ALL[i / 3 % 3]);
+        let a = generator.number(Class::ALL[i % 4]);
+        let b = generator.number(Class::ALL[i / 4 % 4]);
         let ours = nimber_product(a, b);
         let plain = plain_product(a, b);
         if ours != plain {
