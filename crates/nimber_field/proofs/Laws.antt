@@ -24,6 +24,7 @@ pub record Factors (K : Type 0) (R : Ops K) (X : Tools K) (a b d : K) : Type 0 w
 
 pub record Laws (K : Type 0) (R : Ops K) (X : Tools K) : Type 0 where
   pub ring : Ring K R
+  pub one_not_nil : R.one ≢ R.nil
   pub nil_or_not : (x : K) → (x ≡ R.nil) ⊎ (x ≢ R.nil)
   pub inverse : (x : K) → x ≢ R.nil → R.mul x (R.inv x) ≡ R.one
   pub top_add : (x y : K) → X.top (R.add x y) ≡ differ (X.top x) (X.top y)
@@ -35,6 +36,7 @@ pub record Laws (K : Type 0) (R : Ops K) (X : Tools K) : Type 0 where
   pub nil_not_lower : (d : K) → X.Lower R.nil d → ⊥
   pub lower_add : (p q d : K) → X.Lower (R.add p q) d → X.Lower p d ⊎ X.Lower q d
   pub lower_half : (f : K) → X.Lower R.half f → X.top f ≡ true
+  pub half_lower : (f : K) → X.top f ≡ true → X.Lower R.half f
   pub factors : (a b d : K) → X.Lower (R.mul a b) d → Factors K R X a b d
 
 pub exchange : (K : Type 0) (R : Ops K) (X : Tools K) → Ring K R → (a b d : K) → Factors K R X a b d → Factors K R X b a d

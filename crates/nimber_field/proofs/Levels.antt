@@ -1,6 +1,6 @@
 -- The laws at every level of the tower. Assumes nothing.
 use mathlib.Core.Path.{◌≡◌, refl}
-use mathlib.Core.Bool.{Bool, true, false, true≢false}
+use mathlib.Core.Bool.{Bool, true, false, true≢false, false≢true}
 use mathlib.Core.Logic.{◌⊎◌, inl, inr, ◌≢◌}
 use Prim.Native.Nat.{ℕ, zero, suc}
 use Rattle.nimber_field.specs.Tower.{bits, differ, Tower, ops}
@@ -59,6 +59,7 @@ bit_factors false b d h = absurd h
 bit_laws : Laws Bool bits bit_tools
 bit_laws = record {
   ring = bit_ring;
+  one_not_nil = true≢false;
   nil_or_not = elim [ true ↦ inr true≢false | false ↦ inl refl ];
   inverse = bit_inverse;
   top_add = λ x y. refl;
@@ -70,6 +71,7 @@ bit_laws = record {
   nil_not_lower = λ d h. h;
   lower_add = bit_lower_add;
   lower_half = elim [ true ↦ λ h. refl | false ↦ λ h. absurd h ];
+  half_lower = elim [ true ↦ λ e. tt | false ↦ λ e. false≢true e ];
   factors = bit_factors;
 }
 

@@ -40,6 +40,10 @@ module _ (k : ℕ) where
   pub decode_one : decode k 1 ≡ one
   decode_one = cc (code_one k, decode_code k one)
 
+  -- numbers that stand for one element are equal
+  pub decode_injective : (a b : ℕ) → a < order k → b < order k → decode k a ≡ decode k b → a ≡ b
+  decode_injective a b ha hb e = cc (code_decode k a ha, code_decode k b hb)
+
   pub invert_below : (a : ℕ) → invert k a < order k
   unfolding invert
   invert_below a = code_below k (inv (decode k a))
@@ -50,9 +54,12 @@ module _ (k : ℕ) where
   zero_of : (a : ℕ) → a < order k → decode k a ≡ nil → a ≡ 0
   zero_of a ha e = cc (code_decode k a ha, code_nil k)
 
+  pub not_nil : (a : ℕ) → a < order k → a ≢ 0 → decode k a ≢ nil
+  not_nil a ha n e = n (zero_of a ha e)
+
   pub times_invert : (a : ℕ) → a < order k → a ≢ 0 → times k a (invert k a) ≡ 1
   unfolding times invert
-  times_invert a ha n = simp (decode_code k, (laws k).inverse (decode k a) (λ e. n (zero_of a ha e)), code_one k)
+  times_invert a ha n = simp (decode_code k, (laws k).inverse (decode k a) (not_nil a ha n), code_one k)
 
   assoc : (a b c : ℕ) → times k (times k a b) c ≡ times k a (times k b c)
   unfolding times

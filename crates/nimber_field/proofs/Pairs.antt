@@ -297,6 +297,7 @@ module _ (K : Type 0) (R : Ops K) (X : Tools K) (L : Laws K R X) where
   unfolding P
   pair_laws = record {
     ring = pair_ring K R L.ring;
+    one_not_nil = λ e. L.one_not_nil (ap (λ y. y.1) e);
     nil_or_not = pair_nil_or_not;
     inverse = pair_inverse;
     top_add = λ x y. L.top_add x.0 y.0;
@@ -308,5 +309,6 @@ module _ (K : Type 0) (R : Ops K) (X : Tools K) (L : Laws K R X) where
     nil_not_lower = pair_nil_not_lower;
     lower_add = pair_lower_add;
     lower_half = pair_lower_half;
+    half_lower = λ f e. inl (L.half_lower f.0 e);
     factors = pair_factors;
   }

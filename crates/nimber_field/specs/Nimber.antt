@@ -1,5 +1,5 @@
 -- Nim sum, nim product and nim inverse of numbers, and Conway's rule for the product. Assumes nothing.
-use Rattle.std.specs.Prelude.{◌≡◌, true, false, ℕ, zero, suc, ◌+◌, ◌*◌, ◌/◌, ◌%◌, ◌^◌, ◌<◌, eqb}
+use Rattle.std.specs.Prelude.{◌≡◌, true, false, ℕ, zero, suc, ◌+◌, ◌-◌, ◌*◌, ◌/◌, ◌%◌, ◌^◌, ◌<◌, eqb}
 use Rattle.std.specs.Int.Bits.{bit_xor}
 use Rattle.nimber_field.specs.Missing.{Missing}
 use Rattle.nimber_field.specs.Tower.{Tower, ops}
@@ -24,6 +24,10 @@ decode (suc k) n = (decode k (n / order k), decode k (n % order k))
 -- the product at level k, of numbers
 unfoldable pub times : ℕ → ℕ → ℕ → ℕ
 times k a b = code k ((ops k).mul (decode k a) (decode k b))
+
+-- the norm of a number of the next level, by its halves
+abbrev pub norm_at : ℕ → ℕ → ℕ → ℕ
+norm_at k high low = bit_xor (bit_xor (times k low low) (times k low high)) (times k (times k high high) (2 ^ (2 ^ k - 1)))
 
 -- the inverse at level k
 unfoldable pub invert : ℕ → ℕ → ℕ
