@@ -1,7 +1,8 @@
 -- Cells as bits of words. Assumes nothing.
-use Rattle.std.proofs.Common.{◌≡◌, ℕ, zero, suc, ◌+◌, ◌-◌, ◌*◌, ◌/◌, ◌%◌, ◌^◌, ◌<◌, ◌≤◌, Bool, true, false, ◌&&◌, not, eqb, ltb, leb, ◌≢◌, List, ◌∷◌, length, get_or, set, get_or-drop, drop-drop, sym, refl, ap, ◌∙◌, arith, get_or-set_other, get_or-set_same, pow-add, eq-eqb, le-leb, le-ltb, lt-ltb, ne_eqb}
+use Rattle.std.proofs.Common.{◌≡◌, ℕ, zero, suc, ◌+◌, ◌-◌, ◌*◌, ◌/◌, ◌%◌, ◌^◌, ◌<◌, ◌≤◌, Bool, true, false, ◌&&◌, not, eqb, ltb, leb, ◌≢◌, List, ◌∷◌, length, get_or, set, get_or-drop, drop-drop, sym, refl, ap, ◌∙◌, arith, get_or-set_other, get_or-set_same, pow-add, eq-eqb, le-leb, le-ltb, lt-ltb, min, ne_eqb}
 use mathlib.Core.Path.{fun_ext}
-use native.Mathlib.Decide.{dec_lt, ℕ_discrete}
+use native.Mathlib.Decide.{dec_le, dec_lt, ℕ_discrete}
+use Rattle.std.proofs.Math.Nat.{min-eq_left, min-eq_right}
 use native.Mathlib.Nat.{div-eq_of_lt, zero-div}
 use lib.Bits.{bit_xor, xor_shr, xor_mod}
 use lib.ListN.{get_or-eq_default, drop}
@@ -287,17 +288,41 @@ all_raised n m d s h = at (s (d - n))
     at true = grind (arith, nat_tests)
     at false = grind (arith, nat_tests)
 
--- cells that are raised by 0 stay where they are
-pub unraised : (words : List ℕ) → length words ≤ 128 → (d : ℕ) → raised 0 (cell words) d ≡ cell words d
-unraised words h d = by_place (dec_lt d 4096)
+-- the first words of a set, as far as they are raised to cells that a set may hold
+pub first_raised : (n k words d : ℕ) (s : ℕ → Bool) → n < 4096 → k ≡ min words (128 - n / 32) → raised n (below (32 * k) s) d ≡ raised n (below (32 * words) s) d
+first_raised n k words d s h e = by_order (dec_le words (128 - n / 32))
   where
-    same : d - 0 ≡ d
-    same = omega arith
+    by_order : Dec (words ≤ 128 - n / 32) → raised n (below (32 * k) s) d ≡ raised n (below (32 * words) s) d
+    by_order (yes l) = ap (λ m. raised n (below (32 * m) s) d) (e ∙ min-eq_left l)
+    by_order (no l) =
+        let last : k ≡ 128 - n / 32 = e ∙ min-eq_right (omega (arith, l)) in
+        all_raised n (32 * k) d s (omega (arith, last, h)) ∙ sym (all_raised n (32 * words) d s (omega (arith, l, h)))
 
-    by_place : Dec (d < 4096) → raised 0 (cell words) d ≡ cell words d
-    by_place (yes l) = λ i. lt-ltb d 4096 l i && (le-leb 0 d (omega arith) i && cell words (same i))
-    by_place (no l) =
-        ap (λ b. b && (leb 0 d && cell words (d - 0))) (le-ltb d 4096 (omega arith)) ∙ sym (no_cell words d (omega arith))
+-- a set has no cell from 4096 on
+pub all_below : (words : List ℕ) → length words ≤ 128 → (d : ℕ) → below 4096 (cell words) d ≡ cell words d
+all_below words h d = by_place (dec_lt d 4096)
+  where
+    by_place : Dec (d < 4096) → below 4096 (cell words) d ≡ cell words d
+    by_place (yes l) = ap (λ b. b && cell words d) (lt-ltb d 4096 l)
+    by_place (no l) = ap (λ b. b && cell words d) (le-ltb d 4096 (omega (arith, l))) ∙ sym (no_cell words d (omega (arith, h, l)))
+
+-- the cells of the words below k, and then those of word k, in their places
+pub word_added : (words : List ℕ) (k d : ℕ) → k < 128
+    → differ (below (32 * k) (cell words) d) (ltb k 128 && (eqb (d / 32) k && marks (get_or words k 0) (d % 32))) ≡ below (32 * (k + 1)) (cell words) d
+word_added words k d few = by_word (ℕ_discrete (d / 32) k)
+  where
+    in_place : (b : Bool) → d / 32 ≡ k → differ (ltb d (32 * k) && b) (ltb k 128 && (eqb (d / 32) k && b)) ≡ (ltb d (32 * (k + 1)) && b)
+    in_place true e = grind (arith, nat_tests)
+    in_place false e = grind (arith, nat_tests)
+
+    elsewhere : (b m : Bool) → d / 32 ≢ k → differ (ltb d (32 * k) && b) (ltb k 128 && (eqb (d / 32) k && m)) ≡ (ltb d (32 * (k + 1)) && b)
+    elsewhere true m n = grind (arith, nat_tests)
+    elsewhere false m n = grind (arith, nat_tests)
+
+    by_word : Dec (d / 32 ≡ k) → differ (below (32 * k) (cell words) d) (ltb k 128 && (eqb (d / 32) k && marks (get_or words k 0) (d % 32))) ≡ below (32 * (k + 1)) (cell words) d
+    by_word (yes e) =
+        ap (λ i. differ (below (32 * k) (cell words) d) (ltb k 128 && (eqb (d / 32) k && marks (get_or words i 0) (d % 32)))) (sym e) ∙ in_place (cell words d) e
+    by_word (no n) = elsewhere (cell words d) (marks (get_or words k 0) (d % 32)) n
 
 -- what a word marks is toggled after what the words before it mark
 pub next_word : (t u : ℕ → Bool) (words : List ℕ) (word n k : ℕ) → word < 2 ^ 32 → word ≡ get_or words k 0

@@ -93,14 +93,14 @@ word_none words f k e =
     let place : (32 * k + j) / 32 ≡ k = omega arith in
     ap (λ w. marks w ((32 * k + j) % 32)) (ap (λ i. get_or words i 0) place ∙ e) ∙ zero_marks ((32 * k + j) % 32))
 
--- the sums of the words that are not 0 add up to the sum over all cells
-pub all_words : (words : List ℕ) (f : ℕ → ℕ) (n : ℕ) → n ≤ 4096 → ((d : ℕ) → n ≤ d → f d ≡ 0)
-    → sum_held 128 (λ k. not (eqb (get_or words k 0) 0)) (λ k. sum_held 32 (λ j. cell words (32 * k + j)) (λ j. f (32 * k + j))) ≡ sum_held n (cell words) f
-all_words words f n small off =
-    left_out 128 (λ k. not (eqb (get_or words k 0) 0)) (λ k. sum_held 32 (λ j. cell words (32 * k + j)) (λ j. f (32 * k + j)))
+-- the sums of the first m words that are not 0 add up to the sum over all cells, where these words have all cells
+pub all_words : (words : List ℕ) (f : ℕ → ℕ) (n m : ℕ) → n ≤ 32 * m → ((d : ℕ) → n ≤ d → f d ≡ 0)
+    → sum_held m (λ k. not (eqb (get_or words k 0) 0)) (λ k. sum_held 32 (λ j. cell words (32 * k + j)) (λ j. f (32 * k + j))) ≡ sum_held n (cell words) f
+all_words words f n m all off =
+    left_out m (λ k. not (eqb (get_or words k 0) 0)) (λ k. sum_held 32 (λ j. cell words (32 * k + j)) (λ j. f (32 * k + j)))
     (λ k l e. word_none words (λ j. f (32 * k + j)) k (grind (arith, nat_tests)))
-    ∙ sum_words 128 (λ d. cond (cell words d) (f d) 0)
-    ∙ ap (λ m. sum_held m (cell words) f) rest ∙ sum_off n (4096 - n) (cell words) f off
+    ∙ sum_words m (λ d. cond (cell words d) (f d) 0)
+    ∙ ap (λ k. sum_held k (cell words) f) rest ∙ sum_off n (32 * m - n) (cell words) f off
   where
-    rest : 32 * 128 ≡ n + (4096 - n)
-    rest = omega arith
+    rest : 32 * m ≡ n + (32 * m - n)
+    rest = omega (arith, all)

@@ -1,6 +1,6 @@
 // A set of cells.
-ghost use Rattle.std.specs.Prelude.{◌≡◌, ◌+◌, ◌*◌, ◌<◌, ◌/◌, ◌&&◌, ◌==◌, ◌%◌, nat_lt};
-ghost use Rattle.games.specs.Cells.{held, in_one, marked_from, marks, no_cells, only, raised};
+ghost use Rattle.std.specs.Prelude.{◌≡◌, ◌+◌, ◌*◌, ◌<◌, ◌/◌, ◌&&◌, ◌==◌, ◌%◌, ◌≤◌, nat_lt};
+ghost use Rattle.games.specs.Cells.{held, held_below, in_one, marked_from, marks, no_cells, only, raised};
 ghost use Rattle.games.specs.Rules.{sum_held};
 ghost use Rattle.games.specs.TakeValues.{any};
 
@@ -46,16 +46,25 @@ impl Cells {
     pub fn toggle_all(&mut self, other: &Cells)
         ensures { held self.new ≡ in_one (held self.old) (held other.now) }
     {
-        self.toggle_raised(other, 0);
+        for k in 0..128u32 {
+            self.toggle_word(k, other.words[k as usize]);
+        }
     }
 
     // Toggles the cells of another set, each raised by n.
     pub fn toggle_raised(&mut self, other: &Cells, n: u32)
         ensures { held self.new ≡ in_one (held self.old) (raised n (held other.now)) }
     {
+        self.toggle_first(128, other, n);
+    }
+
+    // Toggles the cells that another set has in its first words, each raised by n: a set that has none behind them costs no more steps than it has words.
+    pub fn toggle_first(&mut self, words: u32, other: &Cells, n: u32)
+        ensures { held self.new ≡ in_one (held self.old) (raised n (held_below (32 * words) (held other.now))) }
+    {
         if n < MOST_CELLS {
             // No cell of a word behind these is raised to one that a set may hold.
-            for (k, word) in (0..128 - n / 32).zip(&other.words) {
+            for (k, word) in (0..words.min(128 - n / 32)).zip(&other.words) {
                 if *word != 0 {
                     self.toggle_marked(32 * k + n, *word);
                 }
@@ -85,7 +94,7 @@ impl Cells {
     pub fn sum<G: Game>(&self, game: &G) -> u32
         ensures { result ≡ sum_held (G.Game.rules game.now).cells (held self.now) (G.Game.rules game.now).worth }
     {
-        (0..128u32)
+        (0..words_of(game))
             .filter(|k| self.words[*k as usize] != 0)
             .map(|k| self.sum_of_word(game, k))
             .fold(0, |sum, value| sum ^ value)
@@ -102,4 +111,13 @@ impl Cells {
             .map(|c| game.value(c))
             .fold(0, |sum, value| sum ^ value)
     }
+}
+
+// How many words the cells of a game take.
+pub fn words_of<G: Game>(game: &G) -> u32
+    ensures all { (G.Game.rules game.now).cells ≤ 32 * result }
+    ensures least { 32 * result < (G.Game.rules game.now).cells + 32 }
+    ensures few { result ≤ 128 }
+{
+    game.size().div_ceil(32)
 }

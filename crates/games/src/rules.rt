@@ -36,7 +36,7 @@ pub trait Game {
         ensures { held result ≡ (rules self.now).holds c i }
     {
         let mut cells = Cells::new();
-        for d in 0..self.size() {
+        for d in 0..c.saturating_add(1).min(self.size()) {
             if self.turns(c, i, d) {
                 cells.toggle(d);
             }

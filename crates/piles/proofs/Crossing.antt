@@ -3,10 +3,11 @@ use Rattle.std.proofs.Common.{◌≡◌, ℕ, ◌+◌, ◌-◌, ◌*◌, ◌/◌
 use mathlib.Core.Path.{fun_ext}
 use native.Mathlib.Decide.{dec_lt, ℕ_discrete}
 use Rattle.std.proofs.lemmas.Bool.{and_parts, lt-leb}
+use Rattle.std.proofs.lemmas.Bool.Decides.{nat_tests}
 use Rattle.std.proofs.lemmas.Nat.{div-add-mod'}
 use Rattle.std.proofs.Math.Nat.{add-mul, div-lt_iff_lt-mul, mod-lt, mul-le-mul_right}
 use Rattle.nimber_field.specs.Tower.{differ}
-use Rattle.games.specs.Cells.{in_one, raised}
+use Rattle.games.specs.Cells.{held_below, in_one, raised}
 use Rattle.games.specs.Rules.{Rules, Lawful}
 use Rattle.piles.specs.Layers.{Stands, crossed, limited, product}
 
@@ -75,6 +76,13 @@ row_passed rows columns n r d e = by_row (ℕ_discrete (d / n) r)
     by_row (yes q) = none (ltb (d / n) r) (ltb (d / n) (r + 1)) (rows (d / n)) (columns (d % n)) (ap rows q ∙ e)
     by_row (no q) = same (ltb (d / n) r) (ltb (d / n) (r + 1)) (rows (d / n)) (columns (d % n)) (search (rules, tests, q))
 
+-- what is set up to c alone lies in the words up to that of c
+pub first_words : (c q : ℕ) (b : Bool) → (b ≡ true → q ≤ c) → (ltb q (32 * (c / 32 + 1)) && b) ≡ b
+first_words c q false h = grind (arith, nat_tests)
+first_words c q true h =
+    let l : q ≤ c = h refl in
+    grind (arith, nat_tests)
+
 module _ (A B : Rules) (c row column : ℕ) (s : Stands A B c row column) where
   some_columns : 0 < B.cells
   some_columns = by_some (dec_lt 0 B.cells)
@@ -92,19 +100,23 @@ module _ (A B : Rules) (c row column : ℕ) (s : Stands A B c row column) where
   in_row : row < A.cells
   in_row = omega (arith, s.row_is, (div-lt_iff_lt-mul {x = c} {y = A.cells} some_columns).1 s.on)
 
-  -- one more row of the board
-  pub row_more : (P : Lawful B) (j m n r : ℕ) (rows columns : ℕ → Bool) → m ≡ A.cells → n ≡ B.cells → columns ≡ B.holds column j → r < m
-      → rows r ≡ true → in_one (crossing r n rows columns) (raised (r * n) columns) ≡ crossing (r + 1) n rows columns
-  row_more P j m n r rows columns is_m is_n is on held =
-      fun_ext (λ d. row_crossed rows columns m n r d (omega (arith, some_columns, is_n))
-      (λ q e. omega (arith, is_n, in_column, P.not_above column j q ((λ i. sym is i q) ∙ e))) on few held)
+  -- one more row of the board, up to row: the words up to that of the column have all that is turned in it
+  pub row_more : (P : Lawful B) (j n r : ℕ) (rows columns : ℕ → Bool) → n ≡ B.cells → columns ≡ B.holds column j → r ≤ row
+      → rows r ≡ true → in_one (crossing r n rows columns) (raised (r * n) (held_below (32 * (column / 32 + 1)) columns)) ≡ crossing (r + 1) n rows columns
+  row_more P j n r rows columns is_n is on held =
+      ap (λ s. in_one (crossing r n rows columns) (raised (r * n) s)) (fun_ext (λ q. first_words column q (columns q) (λ e. not_above q e)))
+      ∙ fun_ext (λ d. row_crossed rows columns A.cells n r d (omega (arith, some_columns, is_n))
+      (λ q e. omega (arith, is_n, in_column, not_above q e)) (omega (arith, on, in_row)) few held)
     where
-      few : m * n ≤ 4096
-      few = subst (λ k. k ≤ 4096) (λ i. sym is_m i * sym is_n i) few_cells
+      not_above : (q : ℕ) → columns q ≡ true → q ≤ column
+      not_above q e = P.not_above column j q ((λ i. sym is i q) ∙ e)
+
+      few : A.cells * n ≤ 4096
+      few = subst (λ k. k ≤ 4096) (λ i. A.cells * sym is_n i) few_cells
 
   -- all its rows
   pub rows_all : (P : Lawful A) (i n r : ℕ) (rows columns : ℕ → Bool) → n ≡ B.cells → rows ≡ A.holds row (i / B.count column) → columns ≡ B.holds column (i % B.count column)
-      → i < A.count row * B.count column → A.cells ≤ r → crossing r n rows columns ≡ (product A B).holds c i
+      → i < A.count row * B.count column → row < r → crossing r n rows columns ≡ (product A B).holds c i
   rows_all P i n r rows columns is_n is_rows is_columns on all =
       fun_ext (λ d. (λ j. ltb (d / is_n j) r && (is_rows j (d / is_n j) && is_columns j (d % is_n j))) ∙ inside d ∙ there d)
       ∙ (λ j. (limited (sym s.fits j) (crossed A B)).holds c i)
@@ -115,7 +127,7 @@ module _ (A B : Rules) (c row column : ℕ) (s : Stands A B c row column) where
       inside : (d : ℕ) → (ltb (d / B.cells) r && (A.holds row (i / B.count column) (d / B.cells) && B.holds column (i % B.count column) (d % B.cells)))
           ≡ (ltb i (A.count row * B.count column) && (A.holds row (i / B.count column) (d / B.cells) && B.holds column (i % B.count column) (d % B.cells)))
       inside d = on_both _ _ (d / B.cells) _ refl (lt-ltb i (A.count row * B.count column) on)
-          (λ e. omega (arith, all, in_row, P.not_above row (i / B.count column) (d / B.cells) e))
+          (λ e. omega (arith, all, P.not_above row (i / B.count column) (d / B.cells) e))
 
       there : (d : ℕ) → (ltb i (A.count row * B.count column) && (A.holds row (i / B.count column) (d / B.cells) && B.holds column (i % B.count column) (d % B.cells)))
           ≡ (crossed A B).holds c i d

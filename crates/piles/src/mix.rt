@@ -95,7 +95,7 @@ impl<A: Game, B: Game> Game for Mix<A, B> {
             Some(Part::Left(c)) => self.left.turned(c, i),
             Some(Part::Right(c)) => {
                 let mut cells = Cells::new();
-                cells.toggle_raised(&self.right.turned(c, i), self.left.size());
+                cells.toggle_first(c / 32 + 1, &self.right.turned(c, i), self.left.size());
                 cells
             }
             None => Cells::new(),

@@ -114,9 +114,10 @@ impl<A: Game, B: Game> Game for Product<A, B> {
         let rows = self.left.turned(p.row, i / moves);
         let row = self.right.turned(p.column, i % moves);
         let columns = self.right.size();
-        for r in 0..self.left.size() {
+        // No row above the cell's is turned, and no column behind it.
+        for r in 0..p.row + 1 {
             if rows.has(r) {
-                cells.toggle_raised(&row, r * columns);
+                cells.toggle_first(p.column / 32 + 1, &row, r * columns);
             }
         }
         cells

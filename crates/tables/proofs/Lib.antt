@@ -2,3 +2,4 @@ pub mod RunLaws
 pub mod AdviceLaws
 pub mod Ranges
 pub mod Values
+mod Turned

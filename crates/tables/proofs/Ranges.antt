@@ -55,16 +55,17 @@ none_at n p e k l = at (p k) refl
 pub off_board : (G : Rules) → Lawful G → (u : Coins) (v d : ℕ) → G.cells ≤ d → falls G u v d ≡ false
 off_board G P u v d l = not_both (u d) _ (le-ltb (G.worth d ⊕ v) (G.worth d) (omega (arith, P.worth_off d l)))
 
-module _ (n : ℕ) (p : ℕ → Bool) (off : (d : ℕ) → n ≤ d → p d ≡ false) where
+-- a test or a search of the n cells by m words, which have them all
+module _ (n m : ℕ) (all : n ≤ 32 * m) (p : ℕ → Bool) (off : (d : ℕ) → n ≤ d → p d ≡ false) where
   -- whether a cell of word k passes
   abbrev word : ℕ → Bool
   word k = any 32 (λ j. p (32 * k + j))
 
   -- a test of all words is a test of the n cells
-  pub words_tested : n ≤ 4096 → any 128 word ≡ any n p
-  words_tested small =
-      let rest : 32 * 128 ≡ n + (4096 - n) = omega arith in
-      any_words 128 p ∙ ap (λ m. any m p) rest ∙ any_off n (4096 - n) p off
+  pub words_tested : any m word ≡ any n p
+  words_tested =
+      let rest : 32 * m ≡ n + (32 * m - n) = omega (arith, all) in
+      any_words m p ∙ ap (λ k. any k p) rest ∙ any_off n (32 * m - n) p off
 
   none_in : (d : ℕ) → word (d / 32) ≡ false → p d ≡ false
   none_in d e =
@@ -74,17 +75,17 @@ module _ (n : ℕ) (p : ℕ → Bool) (off : (d : ℕ) → n ≤ d → p d ≡ f
   -- what a search of the words gives
   abbrev pub FirstWord : Option ℕ → Type 0
   FirstWord r =
-      MatchOption r ((k : ℕ) → 0 ≤ k → k < 128 → word k ≡ false)
-      (λ i. (0 ≤ i) × (i < 128) × (word i ≡ true) × ((k : ℕ) → 0 ≤ k → k < i → word k ≡ false))
+      MatchOption r ((k : ℕ) → 0 ≤ k → k < m → word k ≡ false)
+      (λ i. (0 ≤ i) × (i < m) × (word i ≡ true) × ((k : ℕ) → 0 ≤ k → k < i → word k ≡ false))
 
-  pub word_below : (r : Option ℕ) (k : ℕ) → r ≡ Some k → FirstWord r → k < 128
+  pub word_below : (r : Option ℕ) (k : ℕ) → r ≡ Some k → FirstWord r → k < m
   word_below r k e h = (subst FirstWord e h).1
 
   -- no word, no cell
-  pub none_found : (r : Option ℕ) → r ≡ None → FirstWord r → n ≤ 4096 → LowestOf n p None
-  none_found r e h small =
+  pub none_found : (r : Option ℕ) → r ≡ None → FirstWord r → LowestOf n p None
+  none_found r e h =
       let f : FirstWord None = subst FirstWord e h in
-      λ d l. none_in d (f (d / 32) (omega arith) (omega arith))
+      λ d l. none_in d (f (d / 32) (omega arith) (omega (arith, l, all)))
 
   -- the first cell of the first word is the first
   pub first_found : (r : Option ℕ) (k : ℕ) → r ≡ Some k → FirstWord r → (c : Option ℕ)

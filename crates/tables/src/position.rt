@@ -1,15 +1,19 @@
 // A position: 4,096 coins, each heads or tails.
-ghost use Rattle.std.specs.Prelude.{◌≡◌, ◌+◌, ◌*◌, ◌<◌, ◌&&◌, nat_lt};
+ghost use Rattle.std.specs.Prelude.{◌≡◌, ◌+◌, ◌*◌, ◌<◌, ◌&&◌, if◌then◌else◌, nat_lt};
 ghost use Rattle.games.specs.Cells.{held, only};
 ghost use Rattle.games.specs.TakeValues.{any};
 ghost use Rattle.play.specs.Play.{after, position_value, turned};
 ghost use Rattle.tables.specs.Calls.{can_move};
-ghost use Rattle.tables.specs.Coins.{all_tails, coins};
+ghost use Rattle.tables.specs.Coins.{all_tails, coins, one_held};
 
 pub mod trial;
 
 use crate::calls::Move;
+use games::cells::words_of;
 use games::{Cells, Game};
+
+// Below this cell a move is turned cell by cell.
+const LOW: u32 = 16;
 
 // A coin shows heads where its cell is held.
 #[derive(Clone, Copy, Debug, Default, PartialEq, Eq)]
@@ -66,14 +70,52 @@ impl Position {
     pub fn turn<G: Game>(&mut self, game: &G, m: Move)
         ensures { coins self.new ≡ after (G.Game.rules game.now) (coins self.old) m.cell m.number }
     {
-        self.toggle(&game.turned(m.cell, m.number));
+        self.turn_and_sum(game, m);
+    }
+
+    // The same, and gives the nim sum of the values of the coins that were turned. At a low cell it is quicker to ask about each cell than to make a set.
+    pub(crate) fn turn_and_sum<G: Game>(&mut self, game: &G, m: Move) -> u32
+        ensures coins { coins self.new ≡ after (G.Game.rules game.now) (coins self.old) m.cell m.number }
+        ensures value { result ≡ position_value (G.Game.rules game.now) ((G.Game.rules game.now).holds m.cell m.number) }
+    {
+        if m.cell < LOW {
+            return self.turn_each(game, m);
+        }
+        let turned = game.turned(m.cell, m.number);
+        self.toggle(&turned);
+        turned.sum(game)
+    }
+
+    // The same, cell by cell.
+    fn turn_each<G: Game>(&mut self, game: &G, m: Move) -> u32
+        ensures coins { coins self.new ≡ after (G.Game.rules game.now) (coins self.old) m.cell m.number }
+        ensures value { result ≡ position_value (G.Game.rules game.now) ((G.Game.rules game.now).holds m.cell m.number) }
+    {
+        let mut value = 0;
+        let end = m.cell.saturating_add(1).min(game.size());
+        for d in 0..end {
+            value ^= self.turn_one(game, m, d);
+        }
+        value
+    }
+
+    // Turns the coin on d if the move holds it, and gives its value then.
+    fn turn_one<G: Game>(&mut self, game: &G, m: Move, d: u32) -> u32
+        ensures coins { coins self.new ≡ turned (coins self.old) (one_held ((G.Game.rules game.now).holds m.cell m.number) d) }
+        ensures value { result ≡ (if (G.Game.rules game.now).holds m.cell m.number d then (G.Game.rules game.now).worth d else 0) }
+    {
+        if !game.turns(m.cell, m.number, d) {
+            return 0;
+        }
+        self.flip(d);
+        game.value(d)
     }
 
     // Whether some head has a move.
     pub fn can_move<G: Game>(&self, game: &G) -> bool
         ensures { result ≡ can_move (G.Game.rules game.now) (coins self.now) }
     {
-        (0..128).any(|k| self.can_move_in(game, k))
+        (0..words_of(game)).any(|k| self.can_move_in(game, k))
     }
 
     // Whether some head of word k has a move.

@@ -7,6 +7,7 @@ use crate::calls::{Answer, Call, Move, Refusal, Side, State};
 use crate::position::Position;
 use crate::position::trial::Trial;
 use games::Game;
+use games::cells::words_of;
 use std::alloc::AllocError;
 
 // The coins, the state and the side to move.
@@ -199,9 +200,7 @@ impl<G: Game> Table<G> {
         ensures { DoesAllowed G.Game.rules (Turn m) result self.old self.new }
     {
         self.check_move(m)?;
-        let turned = self.game.turned(m.cell, m.number);
-        self.kept.position.toggle(&turned);
-        self.value ^= turned.sum(&self.game);
+        self.value ^= self.kept.position.turn_and_sum(&self.game, m);
         self.kept.side = self.kept.side.other();
         Ok(Answer::Turned(self.settle()))
     }
@@ -264,7 +263,7 @@ impl<G: Game> Table<G> {
     fn lowest_head(&self, v: u32) -> Option<u32>
         ensures { LowestOf (G.Game.rules self.now.game).cells (falls (G.Game.rules self.now.game) (coins self.now.kept.position) v) result }
     {
-        let k = (0..128).find(|k| self.falls_in(*k, v))?;
+        let k = (0..words_of(&self.game)).find(|k| self.falls_in(*k, v))?;
         (32 * k..32 * k + 32).find(|c| self.falls(*c, v))
     }
 

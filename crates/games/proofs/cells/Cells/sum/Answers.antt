@@ -17,8 +17,8 @@ returns g c =
     let some : ℕ → Bool = λ k. not (eqb (get_or words k 0) 0) in
     let part : ℕ → ℕ = λ k. sum_held 32 (λ j. s (32 * k + j)) (λ j. G.worth (32 * k + j)) in
     fold_from_yields_List _ (λ a x. a ⊕ x) 0 c.fold.result c.fold.ensures.ran
-    (YieldsList-from_map _ part (YieldsList-at c.map.ensures.source (YieldsList-from_filter _ some (YieldsList-from_range 0 128 128 c.filter.ensures.source (omega arith))
+    (YieldsList-from_map _ part (YieldsList-at c.map.ensures.source (YieldsList-from_filter _ some (YieldsList-from_range 0 c.words_of.result c.words_of.result c.filter.ensures.source (omega arith))
     c.filter.ensures.closure (λ x r q k. search (rules, tests)))) c.map.ensures.closure (λ x r q k. search (rules, tests)))
     (λ a x b q k. search (rules, tests))
-    ∙ held_added 128 128 some part refl
-    ∙ all_words words G.worth G.cells law.cells_bound law.worth_off
+    ∙ held_added c.words_of.result c.words_of.result some part refl
+    ∙ all_words words G.worth G.cells c.words_of.result c.words_of.ensures.all law.worth_off

@@ -1,6 +1,6 @@
-use Rattle.std.proofs.Common.{◌≡◌, ◌*◌, ◌%◌, ◌/◌, sym, ap, ◌∙◌, arith}
+use Rattle.std.proofs.Common.{◌≡◌, ◌+◌, ◌*◌, ◌%◌, ◌/◌, sym, ap, ◌∙◌, arith}
 use mathlib.Core.Path.{fun_ext}
-use Rattle.games.specs.Cells.{held, in_one, raised}
+use Rattle.games.specs.Cells.{held, held_below, in_one, raised}
 use Rattle.piles.proofs.Crossing.{row_more, row_passed, rows_all}
 use Rattle.piles.proofs.product.ProductGame.turned.Goals as goal
 use Rattle.piles.proofs.product.ProductGame.turned.Goals.{then-has, else-has}
@@ -15,10 +15,10 @@ loop-r-preserved g c =
     let r = c.loop-r.r in
     elim c.if-has.branch [
       | then-has w ↦
-          ap held w.cells-is ∙ w.toggle_raised.ensures ∙ (λ j. in_one (c.loop-r.invariant j) (raised (r * n) columns))
+          ap held w.cells-is ∙ w.toggle_first.ensures ∙ (λ j. in_one (c.loop-r.invariant j) (raised (r * n) (held_below (32 * (c.in-Some.p.column / 32 + 1)) columns)))
           ∙ row_more A B c.args.c c.in-Some.p.row c.in-Some.p.column c.in-Some.ensures (g.met.B.Game.lawful c.args.self.now.right)
-          (c.args.i % c.count-moves.result) c.size-r-end.result n r rows columns c.size-r-end.ensures c.size-columns.ensures c.turned-row.ensures
-          c.loop-r-test.true (sym c.has.ensures ∙ w.if-has.true)
+          (c.args.i % c.count-moves.result) n r rows columns c.size-columns.ensures c.turned-row.ensures
+          (omega (arith, c.loop-r-test.true)) (sym c.has.ensures ∙ w.if-has.true)
       | else-has w ↦
           ap held w.cells-is ∙ c.loop-r.invariant ∙ fun_ext (λ d. row_passed rows columns n r d (sym c.has.ensures ∙ w.if-has.false))
     ]
@@ -35,4 +35,4 @@ returns g c =
     (held c.turned-rows.result) (held c.turned-row.result) c.size-columns.ensures
     (c.turned-rows.ensures ∙ (λ j. A.holds p.row (i / c.count-moves.ensures j)))
     (c.turned-row.ensures ∙ (λ j. B.holds p.column (i % c.count-moves.ensures j)))
-    (omega (arith, moves, c.if-i-count.false)) (omega (arith, c.loop-r-test.false, c.size-r-end.ensures))
+    (omega (arith, moves, c.if-i-count.false)) (omega (arith, c.loop-r-test.false))
