@@ -82,9 +82,13 @@ fn frame_in(file: &[u8], place: usize) -> Option<Frame<'_>>
 }
 
 // The number in at most four bytes, the low one first; those that are missing count as 0.
-// Not by patterns: they would take an arm for each length, and one for the lengths that no caller has.
+// Two bytes and four, the widths of all fields, have arms of their own, since each record is read through them.
 pub(crate) fn number(bytes: &[u8]) -> u32
     ensures { result ≡ number_of bytes.now }
 {
-    u32::from_le_bytes(array::from_fn(|i| bytes.get(i).copied().unwrap_or(0)))
+    match *bytes {
+        [a, b] => u16::from_le_bytes([a, b]) as u32,
+        [a, b, c, d] => u32::from_le_bytes([a, b, c, d]),
+        _ => u32::from_le_bytes(array::from_fn(|i| bytes.get(i).copied().unwrap_or(0))),
+    }
 }

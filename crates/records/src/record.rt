@@ -236,7 +236,8 @@ impl<'a> Record<'a> {
     }
 }
 
-// Whether a text has a byte outside 32 to 126.
+// Whether a text has a byte outside 32 to 126. Not inlined, since its loop is then shorter.
+#[inline(never)]
 fn has_bad_byte(text: &[u8]) -> bool
     ensures { result ≡ bad_text text.now }
 {

@@ -1,3 +1,4 @@
 pub mod Writing
 pub mod StepLaws
 pub mod ReportLaws
+pub mod Lengths

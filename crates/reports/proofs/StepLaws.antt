@@ -12,7 +12,7 @@ use Rattle.transcripts.proofs.ReadingLaws.{no_fault, past}
 use Rattle.reports.specs.Lines.{too_small}
 use Rattle.reports.specs.Steps.{CallCarries, CallLeaves, Stepped, Tells, buffer_after, call_met, length_given, line_for, line_given, met}
 
-passed : {X E : Type 0} (b : Bool) (e : E) (x y : X) → cond b (Ok y) (Err e) ≡ Ok x → (b ≡ true) × (y ≡ x)
+pub passed : {X E : Type 0} (b : Bool) (e : E) (x y : X) → cond b (Ok y) (Err e) ≡ Ok x → (b ≡ true) × (y ≡ x)
 passed true e x y h = (refl, cc)
 passed false e x y h = absurd (no_fault x e (sym h))
 

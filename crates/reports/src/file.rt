@@ -28,11 +28,11 @@ pub fn report(heap: Global, file: &[u8]) -> Result<Vec<u8>, AllocError>
 {
     let mut referee = Referee::new(heap, Unread::new(file))?;
     let mut lines = Vec::new(heap);
-    let mut line = Line::new();
     // A loop, since it ends in two ways: behind the end record, and at a fault.
     loop {
         match referee.tell_next() {
             Ok(Some(told)) => {
+                let mut line = Line::new();
                 told.write(&mut line);
                 lines.extend_from_slice(line.as_bytes())?;
             }

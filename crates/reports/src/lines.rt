@@ -1,5 +1,5 @@
 // Lines: text, numbers in decimal, and whole lines.
-ghost use Rattle.std.specs.Prelude.{◌≡◌, ℕ, ◌+◌, ◌*◌, ◌≤◌, List, [], ◌++◌, false, length};
+ghost use Rattle.std.specs.Prelude.{◌≡◌, ℕ, ◌+◌, ◌*◌, ◌<◌, ◌≤◌, List, [], ◌∷◌, ◌++◌, false, length};
 ghost use Rattle.reports.specs.Lines.{fields as fields_of, in_front, line, opening, too_small};
 
 use arrayvec::ArrayVec;
@@ -32,25 +32,26 @@ impl Line {
         }
     }
 
-    // Writes the line of a record anew: its number, a word, fields and a tail.
+    // Writes the line of a record into an empty line: its number, a word, fields and a tail.
     #[inline(always)]
     pub(crate) fn write(&mut self, n: usize, word: &[u8], numbers: &[u32], tail: &[u8])
-        requires { 21 + length word.now + 11 * length numbers.now + length tail.now ≤ 128 }
+        requires empty { self.old ≡ [] }
+        requires room { 21 + length word.now + 11 * length numbers.now + length tail.now ≤ 128 }
         ensures { self.new ≡ line n word.now numbers.now tail.now }
     {
         self.open(n, word, numbers);
         self.text(tail);
-        self.text(b"\n");
+        self.byte(b'\n');
     }
 
-    // Opens the line anew with the number of a record, a word and fields.
+    // Opens an empty line with the number of a record, a word and fields.
     #[inline(always)]
     fn open(&mut self, n: usize, word: &[u8], numbers: &[u32])
-        requires { 20 + length word.now + 11 * length numbers.now ≤ 128 }
+        requires empty { self.old ≡ [] }
+        requires room { 20 + length word.now + 11 * length numbers.now ≤ 128 }
         ensures bytes { self.new ≡ opening n word.now numbers.now }
         ensures short { length self.new ≤ 20 + length word.now + 11 * length numbers.now }
     {
-        self.bytes.clear();
         self.number(n);
         self.text(word);
         self.fields(numbers);
@@ -64,7 +65,7 @@ impl Line {
         ensures short { length self.new ≤ length self.old + 11 * length numbers.now }
     {
         for n in numbers {
-            self.text(b" ");
+            self.byte(b' ');
             self.number(*n);
         }
     }
@@ -75,7 +76,20 @@ impl Line {
         ensures bytes { self.new ≡ self.old ++ I.text n }
         ensures short { length self.new ≤ length self.old + I.MAX_STR_LEN }
     {
-        self.text(Buffer::new().format(n).as_bytes());
+        let mut buffer = Buffer::new();
+        let digits = buffer.format(n).as_bytes();
+        for digit in digits {
+            self.byte(*digit);
+        }
+    }
+
+    // Adds a byte.
+    #[inline(always)]
+    fn byte(&mut self, byte: u8)
+        requires { length self.old < 128 }
+        ensures { self.new ≡ self.old ++ (byte ∷ []) }
+    {
+        self.bytes.push(byte);
     }
 
     // Adds a text.
@@ -119,7 +133,7 @@ impl From<Fault> for Line {
         line.open(at.number, b" bad", &[fault.number()]);
         line.text(b" at ");
         line.number(at.place);
-        line.text(b"\n");
+        line.byte(b'\n');
         line
     }
 }

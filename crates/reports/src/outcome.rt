@@ -1,5 +1,6 @@
 // What came of a record, and its line.
-ghost use Rattle.std.specs.Prelude.{◌≡◌, ◌≤◌};
+ghost use Rattle.std.specs.Prelude.{◌≡◌, ◌≤◌, [], false, length};
+ghost use Rattle.reports.specs.Lines.{in_front, too_small};
 ghost use Rattle.reports.specs.Outcomes.{line_of, over_mark as mark_of, text_length, told_of};
 
 use crate::lines::Line;
@@ -52,8 +53,10 @@ impl<'a> Told<'a> {
         Told { number, outcome }
     }
 
-    // Writes the line anew.
+    // Writes the line into an empty one.
+    #[inline(always)]
     pub(crate) fn write(&self, line: &mut Line)
+        requires { line.old ≡ [] }
         ensures { line.new ≡ self.now }
     {
         let n = self.number;
@@ -71,6 +74,18 @@ impl<'a> Told<'a> {
             Outcome::Said(text) => line.write(n, b" said ", &[], text),
             Outcome::End => line.write(n, b" end", &[], b""),
         }
+    }
+
+    // Puts the line in front of a buffer, and gives its length.
+    #[inline(always)]
+    pub(crate) fn put(&self, buffer: &mut [u8]) -> usize
+        requires { too_small (length buffer.old) ≡ false }
+        ensures length { result ≡ length self.now }
+        ensures buffer { buffer.new ≡ in_front self.now buffer.old }
+    {
+        let mut line = Line::new();
+        self.write(&mut line);
+        line.put(buffer)
     }
 }
 

@@ -14,6 +14,7 @@ use tables::calls::Answer;
 use tables::table::Table;
 
 // Does the call of a record, if it has one, and says what came of the record.
+#[inline(always)]
 pub(crate) fn tell<'a, G: Game>(table: &mut Table<G>, record: Record<'a>) -> Outcome<'a>
     ensures game { table.new.game ≡ table.old.game }
     ensures told { told_of result ≡ told_by (G.Game.rules table.old.game) (coins table.new.kept.position) table.new.kept.state (reply_for (G.Game.rules table.old.game) (coins table.old.kept.position) table.old.kept.state (item_of «record».entry)) (item_of «record».entry) }

@@ -1,5 +1,5 @@
 // Steps: a record is read, the table is called, and a line is written.
-ghost use Rattle.std.specs.Prelude.{◌≡◌, [], length, IfOk, Err};
+ghost use Rattle.std.specs.Prelude.{◌≡◌, ◌↔◌, [], length, IfOk, None, Ok, Err};
 ghost use Rattle.piles.specs.Numbered.{pile_of};
 ghost use Rattle.tables.specs.Runs.{Stands};
 ghost use Rattle.transcripts.specs.Readings.{as_first, reading, start};
@@ -8,7 +8,7 @@ ghost use Rattle.transcripts.specs.declared.fault.Fault.{Fault};
 ghost use Rattle.reports.specs.Steps.{game_of as file_game};
 
 use super::Referee;
-use crate::lines::{Line, is_small};
+use crate::lines::is_small;
 use crate::outcome::Told;
 use crate::telling::tell;
 use games::{Game, Twins};
@@ -41,6 +41,7 @@ impl<'a> Referee<'a> {
         ensures game { self.new.table.game ≡ self.old.table.game }
         ensures does { Stepped (pile_of self.old.table.game.game) (reading self.old.body) (reading self.new.body) self.old.table.kept self.new.table.kept line.old line.new result }
         ensures again { (e : Fault) → result ≡ Err e → met (length line.new) (reading self.new.body) ≡ Err e }
+        ensures end { (result ≡ Ok 0) ↔ (met (length line.old) (reading self.old.body) ≡ Ok None) }
     {
         if is_small(line) {
             return Err(Fault::SmallBuffer(self.body.at()));
@@ -48,12 +49,11 @@ impl<'a> Referee<'a> {
         let Some(told) = self.tell_next()? else {
             return Ok(0);
         };
-        let mut text = Line::new();
-        told.write(&mut text);
-        Ok(text.put(line))
+        Ok(told.put(line))
     }
 
     // Reads a record, calls the table and gives the line of what came of it; there is none behind the end record.
+    #[inline(always)]
     pub(crate) fn tell_next(&mut self) -> Result<Option<Told<'a>>, Fault>
         ensures game { self.new.table.game ≡ self.old.table.game }
         ensures does { Tells (pile_of self.old.table.game.game) (reading self.old.body) (reading self.new.body) self.old.table.kept self.new.table.kept result }

@@ -2,6 +2,7 @@
 ghost use Rattle.std.specs.Prelude.{◌≡◌, ◌+◌, ◌≤◌, length, IfOk, IfSome, Some, Ok, Err};
 ghost use Rattle.records.specs.Records.{item_of, item_size, record_at};
 ghost use Rattle.transcripts.specs.Readings.{accepted, as_found, as_looked, at_of, found, reading, reading_after, start, Stuck};
+ghost use Rattle.transcripts.specs.Readings.{lacks_pile as pileless};
 ghost use Rattle.transcripts.specs.declared.fault.Fault.{Fault};
 
 use super::Body;
@@ -75,7 +76,7 @@ impl<'a> Body<'a> {
         if matches!(record, Record::Head(_)) != first {
             return Err(Fault::HeadMisplaced(at));
         }
-        if matches!(record, Record::Head(head) if head.board().is_none()) {
+        if lacks_pile(record) {
             return Err(Fault::NoPile(at));
         }
         record.check_text(at)?;
@@ -90,5 +91,15 @@ impl<'a> Body<'a> {
         self.place += record.size();
         self.read += 1;
         self.ended = matches!(record, Record::End);
+    }
+}
+
+// Whether it is a head, and of a pile that is not numbered. Apart, so that a head alone pays for the room that a pile takes.
+fn lacks_pile(record: Record) -> bool
+    ensures { result ≡ pileless (item_of «record».entry) }
+{
+    match record {
+        Record::Head(head) => head.board().is_none(),
+        _ => false,
     }
 }

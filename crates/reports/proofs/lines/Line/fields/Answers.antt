@@ -11,6 +11,6 @@ loop-n-preserved c =
     let one = decimal (get_or ns c.loop-n.n-index 0) in
     let more = fields_more ns c.loop-n.n-index c.loop-n-test.true in
     let regroup : ((xs ++ so) ++ (32 ∷ [])) ++ one ≡ xs ++ (so ++ (32 ∷ one)) = simp append_assoc in
-    let blank : c.text.new.self ≡ c.loop-n.self ++ (32 ∷ []) = c.text.ensures in
-    let short : length c.number.new.self ≤ length c.text.new.self + 10 = c.number.ensures.short in
+    let blank : c.byte.new.self ≡ c.loop-n.self ++ (32 ∷ []) = c.byte.ensures in
+    let short : length c.number.new.self ≤ length c.byte.new.self + 10 = c.number.ensures.short in
     record { bytes = cc; short = omega (arith, ap length blank, length-append c.loop-n.self (32 ∷ [])) }
