@@ -2,7 +2,6 @@
 use crate::comparison::compare;
 use crate::writing::{Board, Transcript};
 use games::Game;
-use games::rules::MOST_CELLS;
 use piles::Pile;
 use std::alloc::{AllocError, Global};
 use tables::calls::{Answer, Move};
@@ -14,6 +13,9 @@ const WIDTHS: [u16; 8] = [0, 1, 2, 3, 4, 64, 65, 258];
 
 // The amounts 1, 2, 9, 17 and 32: some in each byte.
 const SET: u32 = 0x8001_0103;
+
+// The most cells of a board. The audit's own: a wrong number in `games` would otherwise not be found.
+const MOST_CELLS: u32 = 4096;
 
 // Coins are laid among so many cells, from the first on.
 const FIRST: u16 = 30;

@@ -6,8 +6,8 @@ use games::{Game, Ruler, Take, Turtles, Twins};
 use piles::{Mix, Product};
 use tallies::{Section, Tally};
 
-// The most cells of a board. Of its own, as the next are, since this is what is tried.
-const MOST_CELLS: u32 = 4096;
+// The most cells of a board. The audit's own, as the next are, since this is what is tried.
+pub(crate) const MOST_CELLS: u32 = 4096;
 
 // The widest row that has cells.
 const WIDEST: u32 = 64;

@@ -2,6 +2,7 @@
 use crate::findings::Findings;
 use crate::shipped::cells;
 use crate::trial::{Choice, Trial};
+use anyhow::Context;
 use games::{Ruler, Take, Turtles, Twins};
 use piles::{Mix, Pile, Product};
 use std::alloc::Global;
@@ -102,12 +103,11 @@ impl Rows {
         trial.examine(&deep, mixed(multiplied(a, mixed(b, a)), b))
     }
 
-    // Numbered piles as parts.
+    // Numbered piles as parts, made by their numbers.
     fn try_numbered(self, trial: &mut Trial) -> anyhow::Result<()> {
         let Rows { w, h, a, b } = self;
-        let rugs = Pile::Rugs(Product::new(Ruler::new(w), Ruler::new(h)));
-        let mixture = Mix::new(Turtles::new(w), Ruler::new(h));
-        let by_twins = Pile::MixedByTwins(Product::new(mixture, Twins::new(4)));
+        let rugs = Pile::new(2, w, h, SET).context("pile 2 is missing")?;
+        let by_twins = Pile::new(6, w, h, SET).context("pile 6 is missing")?;
         let both = Mix::new(by_twins, rugs);
         trial.examine(&both, mixed(multiplied(mixed(a, b), 4), multiplied(a, b)))?;
         trial.examine(

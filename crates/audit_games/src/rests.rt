@@ -1,7 +1,7 @@
 // The rests of the moves at a cell, and the value that they leave to it.
 ghost use Rattle.std.specs.Prelude.{◌≡◌, ℕ, ◌-◌, ◌^◌, ◌<◌, length, IfSome, IfOk, vec_len, MatchOption, slice_index};
 ghost use Rattle.audit_games.specs.Lists.{Has, LacksBelow};
-ghost use Rattle.audit_games.specs.Values.{IsSmallest};
+ghost use Rattle.audit_games.specs.Values.{IsSmallest, EveryRest, NoValue};
 ghost use Rattle.games.specs.Rules.{sum_held};
 
 use games::Game;
@@ -60,15 +60,15 @@ fn next_value<G: Game>(
     values: &[u32],
     heap: Global,
 ) -> Result<Option<u32>, AllocError>
-    ensures { IfOk result (λ found. IfSome found (λ v. IsSmallest (G.Game.rules game.now) values.now c v)) }
+    ensures { IfOk result (λ found. MatchOption found (EveryRest (G.Game.rules game.now) values.now c) (λ v. IsSmallest (G.Game.rules game.now) values.now c v)) }
 {
     let rests = rests(game, c, values, heap)?;
     Ok(smallest_missing(&rests))
 }
 
-// The values of the cells below an end, in their order, unless every number is a rest at one.
+// The values of the cells below an end, in their order; none where a cell has no value below 2 ^ 32 - 1.
 pub fn values<G: Game>(game: &G, end: u32, heap: Global) -> Result<Option<Vec<u32>>, AllocError>
-    ensures { IfOk result (λ found. IfSome found (λ v. (vec_len v ≡ end) × ((c : ℕ) → c < end → IsSmallest (G.Game.rules game.now) v.items c (slice_index v.items c)))) }
+    ensures { IfOk result (λ found. MatchOption found (NoValue (G.Game.rules game.now) end) (λ v. (vec_len v ≡ end) × ((c : ℕ) → c < end → IsSmallest (G.Game.rules game.now) v.items c (slice_index v.items c)))) }
 {
     let mut values = Vec::new(heap);
     // A loop: each is found from those before it.

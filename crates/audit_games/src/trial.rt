@@ -3,10 +3,10 @@ ghost use Rattle.std.specs.Prelude.{◌≡◌, ℕ, ◌<◌, ◌≤◌, true, fa
 ghost use Rattle.audit_games.specs.Lists.{LacksBelow};
 
 use crate::findings::Findings;
-use crate::rests::{lowest_move, rests, values};
+use crate::limits::MOST_CELLS;
+use crate::rests::{lowest_move, rests, smallest_missing};
 use anyhow::Context;
 use games::Game;
-use games::rules::MOST_CELLS;
 use std::alloc::Global;
 use tallies::Tally;
 
@@ -38,14 +38,17 @@ impl Trial {
     pub fn examine<G: Game>(&mut self, game: &G, cells: u32) -> anyhow::Result<()> {
         let subject = Subject { game, cells };
         self.findings.sizes.count(subject.has_size());
-        let values = values(game, cells, self.heap)?.context("every number is a rest")?;
-        for (c, value) in (0..cells).zip(&values) {
+        let mut values = Vec::new(self.heap);
+        // A loop: each value is found from those before it, by the rests that the replies are tried on too.
+        for c in 0..cells {
             let rests = rests(game, c, &values, self.heap)?;
-            self.findings.values.count(game.value(c) == *value);
+            let value = smallest_missing(&rests).context("every number is a rest")?;
+            values.push(value)?;
+            self.findings.values.count(game.value(c) == value);
             self.findings.counts.count(subject.is_counted(c));
             subject.try_moves(c, &mut self.findings.moves);
             let expected = Expected {
-                value: *value,
+                value,
                 rests: &rests,
                 choice: self.choice,
             };

@@ -1,10 +1,12 @@
 // What a table should show and answer, kept apart from it.
 use audit_games::rests::values;
 use games::Game;
-use games::rules::MOST_CELLS;
 use std::alloc::{AllocError, Global};
 use tables::calls::{Answer, Call, Move, Refusal, Side, State};
 use tables::table::Table;
+
+// The most cells of a board. The audit's own: a wrong number in `games` would otherwise not be found.
+const MOST_CELLS: u32 = 4096;
 
 // What a call should be answered. No `Option`: advice is no missing answer; any is right that `fits` finds so.
 #[derive(Clone, Copy, Debug, PartialEq, Eq)]

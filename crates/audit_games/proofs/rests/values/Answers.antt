@@ -1,10 +1,10 @@
-use Rattle.std.proofs.Common.{rules, ◌≡◌, ℕ, ◌<◌, ◌≤◌, ◌+◌, length, get_or, cond, IfSome, List, [], ◌∷◌, ◌++◌, vec_items, sym, ap, subst, ◌∙◌, below_more}
+use Rattle.std.proofs.Common.{rules, ◌≡◌, ℕ, ◌<◌, ◌≤◌, ◌+◌, length, get_or, cond, MatchOption, Option, Some, None, List, [], ◌∷◌, ◌++◌, vec_items, refl, sym, ap, subst, ◌∙◌, below_more}
 use Rattle.std.proofs.Math.ListN.{get_or-append}
 use Rattle.std.proofs.Math.Seq.{get_or-append_seam}
 use native.Mathlib.Omega.{arith}
 use Rattle.games.specs.Rules.{Rules}
 use Rattle.games.specs.Laws.Sums.{sum_same}
-use Rattle.audit_games.specs.Values.{rest_by, IsSmallest}
+use Rattle.audit_games.specs.Values.{rest_by, IsSmallest, EveryRest}
 use Rattle.audit_games.proofs.rests.values.Goals as goal
 
 module _ (G : Rules) (xs : List ℕ) (v : ℕ) where
@@ -33,7 +33,7 @@ loop-c-preserved g c =
     let xs : List ℕ = vec_items c.loop-c.values in
     let e : vec_items c.push.new.self ≡ xs ++ c.in-Some.value ∷ [] = search rules in
     let n : c.loop-c.c ≡ length xs = sym c.loop-c.invariant.0 ∙ c.loop-c.values.ok.0 in
-    let next : IsSmallest G c.deref.result.now c.loop-c.c c.in-Some.value = subst (λ r. IfSome r (IsSmallest G c.deref.result.now c.loop-c.c)) c.in-Some.is c.in_ok-value.ensures in
+    let next : IsSmallest G c.deref.result.now c.loop-c.c c.in-Some.value = subst (λ r. MatchOption r (EveryRest G c.deref.result.now c.loop-c.c) (IsSmallest G c.deref.result.now c.loop-c.c)) c.in-Some.is c.in_ok-value.ensures in
     let seen : c.deref.result.now ≡ xs = c.deref.ensures.value in
     (search rules, subst (λ ys. (b : ℕ) → b < c.loop-c.c + 1 → IsSmallest G ys b (get_or ys b 0)) (sym e) (with_next G xs c.in-Some.value c.loop-c.c n c.loop-c.invariant.1 (subst (λ ys. IsSmallest G ys c.loop-c.c c.in-Some.value) seen next)))
 
@@ -41,3 +41,15 @@ pub returns : goal.returns
 returns g c =
     let e : c.loop-c.c ≡ c.args.end = omega arith in
     (c.loop-c.invariant.0 ∙ e, λ b p. c.loop-c.invariant.1 b (omega arith))
+
+no_value : (r : Option ℕ) (No : Type 0) (Yes : ℕ → Type 0) → ((v : ℕ) → r ≡ Some v → ⊥) → MatchOption r No Yes → No
+no_value None No Yes n h = h
+no_value (Some v) No Yes n h = absurd (n v refl)
+
+pub returns-in_default : goal.returns-in_default
+returns-in_default g c =
+    let G : Rules = g.G.Game.rules c.args.game.now in
+    let seen : c.deref.result.now ≡ vec_items c.loop-c.values = c.deref.ensures.value in
+    let length_is : length (vec_items c.loop-c.values) ≡ c.loop-c.c = sym c.loop-c.values.ok.0 ∙ c.loop-c.invariant.0 in
+    let every : EveryRest G c.deref.result.now c.loop-c.c = no_value c.in_ok-value.field-0 (EveryRest G c.deref.result.now c.loop-c.c) (IsSmallest G c.deref.result.now c.loop-c.c) c.in_default.not-Some c.in_ok-value.ensures in
+    (c.loop-c.c, c.loop-c-test.true, vec_items c.loop-c.values, (length_is, c.loop-c.invariant.1), subst (λ xs. EveryRest G xs c.loop-c.c) seen every)
